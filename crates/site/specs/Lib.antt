@@ -1,0 +1,4 @@
+pub mod Words
+pub mod Site
+pub mod Maps
+pub mod Limits
