@@ -11,12 +11,8 @@ use Rattle.site.specs.Words.{member}
 use Rattle.site.specs.Site.{Place, Site}
 
 -- the limits of a regular map
-pub record Fit (racks each : ℕ) : Type 0 where
-  pub some : 1 ≤ racks
-  pub few : racks ≤ 32
-  pub each-some : 1 ≤ each
-  pub each-few : each ≤ 256
-  pub all-few : racks * each ≤ 256
+abbrev pub Fit : ℕ → ℕ → Type 0
+Fit racks each = (1 ≤ racks) × (racks ≤ 32) × (1 ≤ each) × (each ≤ 256) × (racks * each ≤ 256)
 
 -- node v is in rack v / each, and all marks are yes
 abbrev pub regular : ℕ → ℕ → Site

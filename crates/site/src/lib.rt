@@ -45,9 +45,9 @@ pub trait SiteMap {
 
 /// A map that is lent for reading is a map of the same meaning.
 pub impl<M: SiteMap> SiteMap for &M as LentSiteMap {
-    ghost meaning = { λ m. M·SiteMap .meaning (now m) };
+    ghost meaning = { λ m. M·SiteMap .meaning (m .now) };
 
-    ghost limits = { λ m. M·SiteMap .limits (now m) };
+    ghost limits = { λ m. M·SiteMap .limits (m .now) };
 
     fn nodes(&self) -> u16 {
         (**self).nodes()

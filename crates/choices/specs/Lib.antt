@@ -1,0 +1,5 @@
+pub mod Sums
+pub mod Room
+pub mod Choice
+pub mod Tight
+pub mod Plan
