@@ -1,0 +1,4 @@
+// Whether blocks can be admitted, who crowds one out, which copies a sealed stripe keeps, and where its parity goes:
+// pure functions over a map and some blocks.
+pub mod block;
+pub mod blocks;
