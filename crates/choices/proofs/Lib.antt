@@ -4,3 +4,4 @@ pub mod Reach
 pub mod Moves
 pub mod Sets
 pub mod Steps
+pub mod Find

@@ -2,7 +2,7 @@
 use mathlib.Core.Path.{_≡_, refl, sym, ap, _∙_}
 use mathlib.Core.Bool.{Bool, true, false, cond, not, _&&_}
 use mathlib.Core.Logic.{_⊎_, inl, inr}
-use Prim.Native.Nat.{ℕ, _+_, min, _<_, _≤_}
+use Prim.Native.Nat.{ℕ, suc, _+_, min, _<_, _≤_}
 use native.Mathlib.Nat.{le-trans}
 use native.Mathlib.Omega.{arith}
 use lib.Dec.{eqb}
@@ -132,3 +132,25 @@ module _ (n c : ℕ) (rack : ℕ → ℕ) (U : ℕ → ℕ → Bool) (a a′ : �
         (λ k l d t.
           let t′ = and-parts (S k && but y k) _ t in
           and-from _ _ (and-from _ _ (and-parts (S k) _ (t′ .0) .0) (but-yes x k d)) (rw (there k d) at (t′ .1)))
+
+-- one more block, which has no place yet
+pub partial-next : (n c : ℕ) (rack : ℕ → ℕ) (U : ℕ → ℕ → Bool) (a : ℕ → ℕ) → Complete n c rack U a → Partial (suc n) c rack U a n
+unfolding countTo
+partial-next n c rack U a p = record {
+    inside = omega arith;
+    placed = record {
+      usable = λ i l t. p .usable i (below i l t) refl;
+      distinct = λ i j l m s t e. p .distinct i j (below i l s) (below j m t) refl refl e;
+      spread = λ r. omega (arith, p .spread r, few r)
+    }
+  }
+  where
+    below : (i : ℕ) → i < suc n → but n i ≡ true → i < n
+    below i l t = let ne : i ≡ n → ⊥ = but-no n i t in elim (cases-eq i n) [ inl e ↦ absurd (ne e) | inr e ↦ omega arith ]
+
+    few : (r : ℕ) → countTo (suc n) (λ i. but n i && eqb (rack (a i)) r) ≤ countTo n (λ i. eqb (rack (a i)) r)
+    few r =
+        let z : (but n n && eqb (rack (a n)) r) ≡ false = simp (eq-eqb n n refl) in
+        let l : countTo n (λ i. but n i && eqb (rack (a i)) r) ≤ countTo n (λ i. eqb (rack (a i)) r) =
+          count-le n (λ i. but n i && eqb (rack (a i)) r) (λ i. eqb (rack (a i)) r) (λ i _ t. and-parts (but n i) _ t .1) in
+        simp z (omega arith)

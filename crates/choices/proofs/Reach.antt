@@ -6,17 +6,44 @@ use Prim.Native.Nat.{ℕ, _+_, min, _<_, _≤_}
 use native.Mathlib.Nat.{le-min, min-le-left, min-le-right, le-trans}
 use native.Mathlib.Omega.{arith}
 use lib.Dec.{eqb}
-use Rattle.std.proofs.shelf.Tests.{cases-eq, cases-bool, eqb-true, eq-eqb, and-parts, and-from, both-ways}
+use Rattle.std.proofs.shelf.Tests.{cases-eq, cases-bool, cases-lt, eqb-true, eq-eqb, and-parts, and-from, both-ways}
 use Rattle.std.proofs.shelf.Ways.{decides-below-or}
 use Rattle.std.specs.Orderings.{Decides}
 use Rattle.choices.specs.Sums.{sumTo, countTo, anyTo}
 use Rattle.choices.specs.Search.{Sized, Placed, useful, reachOf, Crowded}
-use Rattle.choices.proofs.Finite.{sum-le, sum-pinch, fibers, inject, inject-lt, cover, count-le, count-lt, count-but-one, each-or}
+use Rattle.choices.proofs.Finite.{sum-le, sum-pinch, fibers, inject, inject-lt, cover, count-le, count-lt, count-but-one, count-mono, each-or}
 
 -- anyTo, as a fact
 pub any-decides : (n : ℕ) (p : ℕ → Bool) → Decides (anyTo n p) ((k : ℕ) × (k < n) × (p k ≡ true))
 unfolding anyTo
 any-decides n p = decides-below-or p (λ k. p k ≡ true) (λ n. anyTo n p) (λ k. (λ e. e, λ e. e)) refl (λ _. refl) n
+
+-- what the sets can use decides their reach
+pub reach-le : (n m N R c : ℕ) (rack : ℕ → ℕ) (U V : ℕ → ℕ → Bool) (S T : ℕ → Bool)
+    → ((v : ℕ) → v < N → anyTo n (λ i. S i && U i v) ≡ true → anyTo m (λ i. T i && V i v) ≡ true) → reachOf n N R c rack U S ≤ reachOf m N R c rack V T
+reach-le n m N R c rack U V S T h =
+    sum-le R (λ r. min c (countTo N (useful n rack U S r))) (λ r. min c (countTo N (useful m rack V T r)))
+    (λ r _.
+      le-min (min-le-left c _)
+      (le-trans (min-le-right c _)
+        (count-le N (useful n rack U S r) (useful m rack V T r)
+          (λ v l t. let t′ = and-parts (eqb (rack v) r) _ t in and-from _ _ (t′ .0) (h v l (t′ .1))))))
+
+-- a crowded set stays crowded when more blocks come after it
+pub crowded-more : (n m N R c : ℕ) (rack : ℕ → ℕ) (U V : ℕ → ℕ → Bool) (S : ℕ → Bool) → n ≤ m
+    → ((i v : ℕ) → i < n → V i v ≡ true → U i v ≡ true) → ((i : ℕ) → n ≤ i → S i ≡ false)
+    → Crowded n N R c rack U S → Crowded m N R c rack V S
+crowded-more n m N R c rack U V S l same past t =
+    omega (arith, t, count-mono n m S l, reach-le m n N R c rack V U S S uses)
+  where
+    uses : (v : ℕ) → v < N → anyTo m (λ i. S i && V i v) ≡ true → anyTo n (λ i. S i && U i v) ≡ true
+    uses v _ e =
+        let h = any-decides m (λ i. S i && V i v) .0 e in
+        let p = and-parts (S (h .0)) _ (h .2) in
+        elim (cases-lt (h .0) n) [
+          inl k ↦ any-decides n (λ i. S i && U i v) .1 (h .0, k, and-from _ _ (p .0) (same (h .0) v k (p .1)))
+        | inr k ↦ absurd (both-ways _ (past (h .0) k) (p .0))
+        ]
 
 module _ (n N R c : ℕ) (rack : ℕ → ℕ) (U : ℕ → ℕ → Bool) (sized : Sized N R rack U)
     (D : ℕ → Bool) (a : ℕ → ℕ) (placed : Placed n c rack U D a) where

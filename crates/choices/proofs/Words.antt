@@ -1,5 +1,5 @@
 -- A word as a set: its count of set digits, and one more member.
-use mathlib.Core.Path.{_≡_, refl, sym, ap, ap₂, _∙_}
+use mathlib.Core.Path.{_≡_, refl, sym, ap, ap₂, subst, _∙_}
 use mathlib.Core.Bool.{Bool, true, false, cond, not, _||_}
 use mathlib.Core.Logic.{_⊎_, inl, inr}
 use Prim.Native.Nat.{ℕ, zero, suc, _+_, _*_, _/_, _%_, _^_, _<_, _≤_, max}
@@ -10,8 +10,8 @@ use lib.Arith.{lt-one}
 use lib.Dec.{eqb}
 use lib.Count.{ones, ones-step}
 use lib.Bits.{bitOr, or-shr, or-mod, shifted-even, shifted-half}
-use Rattle.std.proofs.shelf.Bits.{shr-shr, shr-below, mod-below, pow-below}
-use Rattle.std.proofs.shelf.Tests.{eq-eqb, not-true, not-from-true, not-from-false, or-parts, or-right}
+use Rattle.std.proofs.shelf.Bits.{shr-shr, shr-split, shr-below, mod-below, pow-below}
+use Rattle.std.proofs.shelf.Tests.{cases-eq, eq-eqb, not-true, not-from-true, not-from-false, or-parts, or-right}
 use Rattle.choices.specs.Search.{unseen}
 use Rattle.choices.proofs.Finite.{count-lt}
 use Rattle.std.proofs.shelf.Ways.{tells}
@@ -84,3 +84,22 @@ member-none k = ap (λ n. eqb (n % 2) 1) (zero-div (2 ^ k))
 -- the set of x alone
 pub member-one : (x k : ℕ) → member (bitOr 0 (2 ^ x)) k ≡ eqb k x
 member-one x k = member-or 0 x k ∙ ap (λ b. b || eqb k x) (member-none k)
+
+-- no number past a word's width is in it
+pub member-past : (n w k : ℕ) → w < 2 ^ n → n ≤ k → member w k ≡ false
+member-past n w k l h =
+    let small : w < 2 ^ k = elim (cases-eq n k) [ inl e ↦ subst (λ j. w < 2 ^ j) e l | inr e ↦ omega (arith, pow-below n k (omega arith)) ] in
+    simp (div-eq-of-lt small)
+
+-- two words with the same members are equal
+pub member-same : (n u w : ℕ) → u < 2 ^ n → w < 2 ^ n → ((k : ℕ) → k < n → member u k ≡ member w k) → u ≡ w
+member-same zero u w l m h = let a : u ≡ 0 = lt-one l in let b : w ≡ 0 = lt-one m in a ∙ sym b
+member-same (suc n) u w l m h =
+    let ih : u / 2 ≡ w / 2 =
+      member-same n (u / 2) (w / 2) (shr-below u n 1 (rw add-one l)) (shr-below w n 1 (rw add-one m))
+      (λ k j. sym (member-half u k) ∙ h (suc k) (omega arith) ∙ member-half w k) in
+    let low : member u 0 ≡ member w 0 = h 0 (omega arith) in
+    let d : u % 2 ≡ w % 2 =
+      low-digit u ∙ ap (λ x. cond (eqb (x % 2) 1) 1 0) (sym (div-one u)) ∙ ap (λ b. cond b 1 0) low
+      ∙ ap (λ x. cond (eqb (x % 2) 1) 1 0) (div-one w) ∙ sym (low-digit w) in
+    omega (arith, shr-split u 1, shr-split w 1)
