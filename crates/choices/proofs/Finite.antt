@@ -26,6 +26,11 @@ sum-pinch (suc n) f g h e j l =
     let top : f n ≤ g n = h n (omega arith) in
     elim (cases-eq j n) [ inl s ↦ rw s (omega arith) | inr s ↦ sum-pinch n f g rest (omega arith) j (omega arith) ]
 
+pub sum-same : (n : ℕ) (f g : ℕ → ℕ) → ((k : ℕ) → k < n → f k ≡ g k) → sumTo n f ≡ sumTo n g
+unfolding sumTo
+sum-same zero f g h = refl
+sum-same (suc n) f g h = ap₂ (λ x y. x + y) (h n (omega arith)) (sum-same n f g (λ k l. h k (omega arith)))
+
 pub sum-add : (n : ℕ) (f g : ℕ → ℕ) → sumTo n (λ k. f k + g k) ≡ sumTo n f + sumTo n g
 unfolding sumTo
 sum-add zero f g = refl
@@ -47,6 +52,11 @@ count-le zero p q h = omega arith
 count-le (suc n) p q h =
     add-le-add (let l : n < suc n = omega arith in let t : p n ≡ true → q n ≡ true = h n l in grind arith)
     (count-le n p q (λ k l. h k (omega arith)))
+
+pub count-same : (n : ℕ) (p q : ℕ → Bool) → ((k : ℕ) → k < n → p k ≡ q k) → countTo n p ≡ countTo n q
+unfolding countTo
+count-same zero p q h = refl
+count-same (suc n) p q h = ap₂ (λ b x. cond b 1 0 + x) (h n (omega arith)) (count-same n p q (λ k l. h k (omega arith)))
 
 pub count-none : (n : ℕ) (p : ℕ → Bool) → ((k : ℕ) → k < n → p k ≡ true → ⊥) → countTo n p ≡ 0
 unfolding countTo

@@ -5,3 +5,4 @@ pub mod Moves
 pub mod Sets
 pub mod Steps
 pub mod Find
+pub mod Sites

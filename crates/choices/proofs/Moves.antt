@@ -8,7 +8,7 @@ use native.Mathlib.Omega.{arith}
 use lib.Dec.{eqb}
 use Rattle.std.proofs.shelf.Tests.{cases-eq, cases-bool, eqb-true, eqb-false, eq-eqb, ne-eqb, and-parts, and-from, both-ways, not-true, not-from-false}
 use Rattle.choices.specs.Sums.{countTo, anyTo}
-use Rattle.choices.proofs.Finite.{count-le, count-but-one, inject}
+use Rattle.choices.proofs.Finite.{count-le, count-same, count-mono, count-but-one, inject}
 use Rattle.choices.specs.Search.{but, Placed, Complete, Partial, Moved, Free, Way, inRack, share}
 
 pub but-yes : (x k : ℕ) → (k ≡ x → ⊥) → but x k ≡ true
@@ -154,3 +154,22 @@ partial-next n c rack U a p = record {
         let l : countTo n (λ i. but n i && eqb (rack (a i)) r) ≤ countTo n (λ i. eqb (rack (a i)) r) =
           count-le n (λ i. but n i && eqb (rack (a i)) r) (λ i. eqb (rack (a i)) r) (λ i _ t. and-parts (but n i) _ t .1) in
         simp z (omega arith)
+
+-- only the first n blocks' nodes matter, and what those blocks can use
+pub placed-same : (n c : ℕ) (rack : ℕ → ℕ) (U V : ℕ → ℕ → Bool) (D : ℕ → Bool) (a b : ℕ → ℕ)
+    → ((i v : ℕ) → i < n → U i v ≡ true → V i v ≡ true) → ((i : ℕ) → i < n → a i ≡ b i) → Placed n c rack U D a → Placed n c rack V D b
+placed-same n c rack U V D a b uses same p = record {
+    usable = λ i l t. uses i (b i) l (rw (← (same i l)) (p .usable i l t));
+    distinct = λ i j l m s t e. p .distinct i j l m s t (same i l ∙ e ∙ sym (same j m));
+    spread = λ r.
+      omega (arith, p .spread r,
+        count-same n (λ i. D i && eqb (rack (a i)) r) (λ i. D i && eqb (rack (b i)) r) (λ i l. ap (λ v. D i && eqb (rack v) r) (same i l)))
+  }
+
+-- fewer blocks stay placed
+pub complete-front : (n m c : ℕ) (rack : ℕ → ℕ) (U : ℕ → ℕ → Bool) (a : ℕ → ℕ) → n ≤ m → Complete m c rack U a → Complete n c rack U a
+complete-front n m c rack U a l p = record {
+    usable = λ i k t. p .usable i (omega arith) t;
+    distinct = λ i j k h s t e. p .distinct i j (omega arith) (omega arith) s t e;
+    spread = λ r. omega (arith, p .spread r, count-mono n m (λ i. eqb (rack (a i)) r) l)
+  }

@@ -1,5 +1,5 @@
 -- A word as a set: its count of set digits, and one more member.
-use mathlib.Core.Path.{_≡_, refl, sym, ap, ap₂, subst, _∙_}
+use mathlib.Core.Path.{_≡_, refl, sym, ap, ap₂, _∙_}
 use mathlib.Core.Bool.{Bool, true, false, cond, not, _||_}
 use mathlib.Core.Logic.{_⊎_, inl, inr}
 use Prim.Native.Nat.{ℕ, zero, suc, _+_, _*_, _/_, _%_, _^_, _<_, _≤_, max}
@@ -13,15 +13,10 @@ use lib.Bits.{bitOr, or-shr, or-mod, shifted-even, shifted-half}
 use Rattle.std.proofs.shelf.Bits.{shr-shr, shr-split, shr-below, mod-below, pow-below}
 use Rattle.std.proofs.shelf.Tests.{cases-eq, eq-eqb, not-true, not-from-true, not-from-false, or-parts, or-right}
 use Rattle.choices.specs.Search.{unseen}
-use Rattle.choices.proofs.Finite.{count-lt}
+use Rattle.choices.proofs.Finite.{count-lt, count-same}
 use Rattle.std.proofs.shelf.Ways.{tells}
 use Rattle.choices.specs.Sums.{countTo}
 use Rattle.site.specs.Words.{member}
-
-pub count-same : (n : ℕ) (p q : ℕ → Bool) → ((k : ℕ) → k < n → p k ≡ q k) → countTo n p ≡ countTo n q
-unfolding countTo
-count-same zero p q h = refl
-count-same (suc n) p q h = ap₂ (λ b x. cond b 1 0 + x) (h n (omega arith)) (count-same n p q (λ k l. h k (omega arith)))
 
 count-shift : (n : ℕ) (p : ℕ → Bool) → countTo (suc n) p ≡ cond (p 0) 1 0 + countTo n (λ k. p (suc k))
 unfolding countTo
@@ -85,11 +80,13 @@ member-none k = ap (λ n. eqb (n % 2) 1) (zero-div (2 ^ k))
 pub member-one : (x k : ℕ) → member (bitOr 0 (2 ^ x)) k ≡ eqb k x
 member-one x k = member-or 0 x k ∙ ap (λ b. b || eqb k x) (member-none k)
 
+pub pow-le : (j k : ℕ) → j ≤ k → 2 ^ j ≤ 2 ^ k
+pow-le j k h = elim (cases-eq j k) [ inl e ↦ rw e (omega arith) | inr e ↦ omega (arith, pow-below j k (omega arith)) ]
+
 -- no number past a word's width is in it
 pub member-past : (n w k : ℕ) → w < 2 ^ n → n ≤ k → member w k ≡ false
 member-past n w k l h =
-    let small : w < 2 ^ k = elim (cases-eq n k) [ inl e ↦ subst (λ j. w < 2 ^ j) e l | inr e ↦ omega (arith, pow-below n k (omega arith)) ] in
-    simp (div-eq-of-lt small)
+    let small : w < 2 ^ k = omega (arith, pow-le n k h) in simp (div-eq-of-lt small)
 
 -- two words with the same members are equal
 pub member-same : (n u w : ℕ) → u < 2 ^ n → w < 2 ^ n → ((k : ℕ) → k < n → member u k ≡ member w k) → u ≡ w
