@@ -1,10 +1,9 @@
 -- The search itself, depth first and swapping as it goes, as a proof: a place for the block that has none, or the least crowded set.
 -- With it, of any blocks, either all can be placed or some set of them is crowded.
-use mathlib.Core.Path.{_≡_, refl, sym, ap, subst, _∙_}
-use mathlib.Core.Bool.{Bool, true, false, cond, not, _&&_, _||_}
+use mathlib.Core.Path.{_≡_, refl, subst}
+use mathlib.Core.Bool.{Bool, true, cond, not, _&&_}
 use mathlib.Core.Logic.{_⊎_, inl, inr}
-use Prim.Native.Nat.{ℕ, zero, suc, _+_, _^_, min, _<_, _≤_}
-use native.Mathlib.Nat.{le-trans, le-min, min-le-left, min-le-right}
+use Prim.Native.Nat.{ℕ, zero, suc, _+_, _^_, _<_, _≤_}
 use native.Mathlib.Numerals.{add-one}
 use native.Mathlib.Omega.{arith}
 use lib.Dec.{eqb}
@@ -12,8 +11,8 @@ use lib.Bits.{bitOr}
 use Rattle.std.proofs.shelf.Tests.{cases-eq, cases-bool, cases-lt, eqb-true, eq-eqb, ne-eqb, and-parts, and-from, both-ways, not-true, not-from-false}
 use Rattle.std.proofs.shelf.Bits.{pow-below}
 use Rattle.site.specs.Words.{member}
-use Rattle.choices.specs.Sums.{sumTo, countTo, anyTo}
-use Rattle.choices.specs.Search.{Sized, useful, reachOf, Crowded, Placed, Complete, but, Partial, Moved, Free, Held, inRack, Open, Shut, Way, Subset, unseen, Failed, Blocked, Ready, Trying, Passing}
+use Rattle.choices.specs.Sums.{anyTo}
+use Rattle.choices.specs.Search.{Sized, Crowded, Complete, but, Partial, Moved, Free, Held, inRack, Open, Shut, Way, Subset, unseen, Failed, Blocked, Ready, Trying, Passing}
 use Rattle.choices.proofs.Finite.{count-le, count-max}
 use Rattle.choices.proofs.Words.{member-past}
 use Rattle.choices.proofs.Reach.{any-decides, crowded-more}
@@ -202,5 +201,6 @@ module _ (N R c : ℕ) (rack : ℕ → ℕ) (U : ℕ → ℕ → Bool) (sized : 
           ]
       | inr q ↦
           inr (q .0, omega (arith, q .1, pow-below n (suc n) (omega arith)),
-            crowded-more n (suc n) N R c rack U U (member (q .0)) (omega arith) (λ i v _ u. u) (λ i l. member-past n (q .0) i (q .1) l) (q .2))
+            crowded-more n (suc n) N N R c rack rack U U (member (q .0)) (omega arith) (λ i v _ u. (sized .node i v u, u, refl))
+            (λ i l _. member-past n (q .0) i (q .1) l) (q .2))
       ]

@@ -203,11 +203,11 @@ count-max (suc n) p = let i : countTo n p ≤ n = count-max n p in grind arith
 
 pub count-yes : (n : ℕ) (p : ℕ → Bool) → p n ≡ true → countTo (n + 1) p ≡ countTo n p + 1
 unfolding countTo
-count-yes n p t = rw add-one (simp t (omega arith))
+count-yes n p t = rw (add-one n) (simp t (omega arith))
 
 pub count-no : (n : ℕ) (p : ℕ → Bool) → p n ≡ false → countTo (n + 1) p ≡ countTo n p
 unfolding countTo
-count-no n p t = rw add-one (simp t (omega arith))
+count-no n p t = rw (add-one n) (simp t (omega arith))
 
 pub count-mono : (m n : ℕ) (p : ℕ → Bool) → m ≤ n → countTo m p ≤ countTo n p
 unfolding countTo

@@ -1,14 +1,14 @@
 -- One block moves: x takes v, and either all are placed then, or the block y that gave way is the one with no place.
 use mathlib.Core.Path.{_≡_, refl, sym, ap, _∙_}
-use mathlib.Core.Bool.{Bool, true, false, cond, not, _&&_}
-use mathlib.Core.Logic.{_⊎_, inl, inr}
-use Prim.Native.Nat.{ℕ, suc, _+_, min, _<_, _≤_}
+use mathlib.Core.Bool.{Bool, true, false, cond, _&&_}
+use mathlib.Core.Logic.{inl, inr}
+use Prim.Native.Nat.{ℕ, suc, _<_, _≤_}
 use native.Mathlib.Nat.{le-trans}
 use native.Mathlib.Omega.{arith}
 use lib.Dec.{eqb}
-use Rattle.std.proofs.shelf.Tests.{cases-eq, cases-bool, eqb-true, eqb-false, eq-eqb, ne-eqb, and-parts, and-from, both-ways, not-true, not-from-false}
-use Rattle.choices.specs.Sums.{countTo, anyTo}
-use Rattle.choices.proofs.Finite.{count-le, count-same, count-mono, count-but-one, inject}
+use Rattle.std.proofs.shelf.Tests.{cases-eq, eqb-true, eqb-false, eq-eqb, ne-eqb, and-parts, and-from, both-ways, not-true, not-from-false}
+use Rattle.choices.specs.Sums.{countTo}
+use Rattle.choices.proofs.Finite.{count-le, count-mono, count-but-one, inject}
 use Rattle.choices.specs.Search.{but, Placed, Complete, Partial, Moved, Free, Way, inRack, share}
 
 pub but-yes : (x k : ℕ) → (k ≡ x → ⊥) → but x k ≡ true
@@ -155,15 +155,21 @@ partial-next n c rack U a p = record {
           count-le n (λ i. but n i && eqb (rack (a i)) r) (λ i. eqb (rack (a i)) r) (λ i _ t. and-parts (but n i) _ t .1) in
         simp z (omega arith)
 
--- only the first n blocks' nodes matter, and what those blocks can use
-pub placed-same : (n c : ℕ) (rack : ℕ → ℕ) (U V : ℕ → ℕ → Bool) (D : ℕ → Bool) (a b : ℕ → ℕ)
-    → ((i v : ℕ) → i < n → U i v ≡ true → V i v ≡ true) → ((i : ℕ) → i < n → a i ≡ b i) → Placed n c rack U D a → Placed n c rack V D b
-placed-same n c rack U V D a b uses same p = record {
-    usable = λ i l t. uses i (b i) l (rw (← (same i l)) (p .usable i l t));
-    distinct = λ i j l m s t e. p .distinct i j l m s t (same i l ∙ e ∙ sym (same j m));
+-- only the nodes of the placed blocks matter, with their racks
+pub placed-same : (n c : ℕ) (place rack : ℕ → ℕ) (U V : ℕ → ℕ → Bool) (D : ℕ → Bool) (a b : ℕ → ℕ)
+    → ((i : ℕ) → i < n → D i ≡ true → U i (a i) ≡ true → (V i (a i) ≡ true) × (place (a i) ≡ rack (a i)))
+    → ((i : ℕ) → i < n → D i ≡ true → a i ≡ b i) → Placed n c place U D a → Placed n c rack V D b
+placed-same n c place rack U V D a b uses same p = record {
+    usable = λ i l t. rw (← (same i l t)) (uses i l t (p .usable i l t) .0);
+    distinct = λ i j l m s t e. p .distinct i j l m s t (same i l s ∙ e ∙ sym (same j m t));
     spread = λ r.
-      omega (arith, p .spread r,
-        count-same n (λ i. D i && eqb (rack (a i)) r) (λ i. D i && eqb (rack (b i)) r) (λ i l. ap (λ v. D i && eqb (rack v) r) (same i l)))
+      le-trans
+      (count-le n (λ i. D i && eqb (rack (b i)) r) (λ i. D i && eqb (place (a i)) r)
+        (λ i l t.
+          let t′ = and-parts (D i) _ t in
+          and-from _ _ (t′ .0)
+          (eq-eqb _ _ (uses i l (t′ .0) (p .usable i l (t′ .0)) .1 ∙ ap rack (same i l (t′ .0)) ∙ eqb-true _ _ (t′ .1)))))
+      (p .spread r)
   }
 
 -- fewer blocks stay placed

@@ -1,12 +1,12 @@
 -- Sets of blocks against the nodes that they can use: a placed set is not crowded, a closed one is, and a crowded one is closed.
 use mathlib.Core.Path.{_≡_, refl, sym, ap, _∙_}
-use mathlib.Core.Bool.{Bool, true, false, cond, not, _&&_}
+use mathlib.Core.Bool.{Bool, true, false, not, _&&_}
 use mathlib.Core.Logic.{_⊎_, inl, inr}
-use Prim.Native.Nat.{ℕ, _+_, min, _<_, _≤_}
+use Prim.Native.Nat.{ℕ, min, _<_, _≤_}
 use native.Mathlib.Nat.{le-min, min-le-left, min-le-right, le-trans}
 use native.Mathlib.Omega.{arith}
 use lib.Dec.{eqb}
-use Rattle.std.proofs.shelf.Tests.{cases-eq, cases-bool, cases-lt, eqb-true, eq-eqb, and-parts, and-from, both-ways}
+use Rattle.std.proofs.shelf.Tests.{cases-bool, cases-lt, eqb-true, eq-eqb, and-parts, and-from, both-ways}
 use Rattle.std.proofs.shelf.Ways.{decides-below-or}
 use Rattle.std.specs.Orderings.{Decides}
 use Rattle.choices.specs.Sums.{sumTo, countTo, anyTo}
@@ -18,31 +18,38 @@ pub any-decides : (n : ℕ) (p : ℕ → Bool) → Decides (anyTo n p) ((k : ℕ
 unfolding anyTo
 any-decides n p = decides-below-or p (λ k. p k ≡ true) (λ n. anyTo n p) (λ k. (λ e. e, λ e. e)) refl (λ _. refl) n
 
--- what the sets can use decides their reach
-pub reach-le : (n m N R c : ℕ) (rack : ℕ → ℕ) (U V : ℕ → ℕ → Bool) (S T : ℕ → Bool)
-    → ((v : ℕ) → v < N → anyTo n (λ i. S i && U i v) ≡ true → anyTo m (λ i. T i && V i v) ≡ true) → reachOf n N R c rack U S ≤ reachOf m N R c rack V T
-reach-le n m N R c rack U V S T h =
-    sum-le R (λ r. min c (countTo N (useful n rack U S r))) (λ r. min c (countTo N (useful m rack V T r)))
+-- a set reaches no less where it can use no less, and what it uses lies in the same racks
+pub reach-le : (n m M N R c : ℕ) (place rack : ℕ → ℕ) (U V : ℕ → ℕ → Bool) (S T : ℕ → Bool)
+    → ((v : ℕ) → anyTo n (λ i. S i && U i v) ≡ true → (v < N) × (anyTo m (λ i. T i && V i v) ≡ true) × (place v ≡ rack v))
+    → reachOf n M R c place U S ≤ reachOf m N R c rack V T
+reach-le n m M N R c place rack U V S T h =
+    sum-le R (λ r. min c (countTo M (useful n place U S r))) (λ r. min c (countTo N (useful m rack V T r)))
     (λ r _.
       le-min (min-le-left c _)
       (le-trans (min-le-right c _)
-        (count-le N (useful n rack U S r) (useful m rack V T r)
-          (λ v l t. let t′ = and-parts (eqb (rack v) r) _ t in and-from _ _ (t′ .0) (h v l (t′ .1))))))
+        (inject M N (useful n place U S r) (useful m rack V T r) (λ v. v)
+          (λ v _ t.
+            let t′ = and-parts (eqb (place v) r) _ t in
+            let k = h v (t′ .1) in
+            (k .0, and-from _ _ (eq-eqb _ _ (sym (k .2) ∙ eqb-true _ _ (t′ .0))) (k .1)))
+          (λ _ _ _ _ _ _ e. e))))
 
--- a crowded set stays crowded when more blocks come after it
-pub crowded-more : (n m N R c : ℕ) (rack : ℕ → ℕ) (U V : ℕ → ℕ → Bool) (S : ℕ → Bool) → n ≤ m
-    → ((i v : ℕ) → i < n → V i v ≡ true → U i v ≡ true) → ((i : ℕ) → n ≤ i → S i ≡ false)
-    → Crowded n N R c rack U S → Crowded m N R c rack V S
-crowded-more n m N R c rack U V S l same past t =
-    omega (arith, t, count-mono n m S l, reach-le m n N R c rack V U S S uses)
+-- a crowded set stays crowded where more blocks come after it, and where its blocks can use no more
+pub crowded-more : (n m M N R c : ℕ) (place rack : ℕ → ℕ) (U V : ℕ → ℕ → Bool) (S : ℕ → Bool) → n ≤ m
+    → ((i v : ℕ) → i < n → V i v ≡ true → (v < M) × (U i v ≡ true) × (rack v ≡ place v)) → ((i : ℕ) → n ≤ i → i < m → S i ≡ false)
+    → Crowded n M R c place U S → Crowded m N R c rack V S
+crowded-more n m M N R c place rack U V S l same past t =
+    omega (arith, t, count-mono n m S l, reach-le m n N M R c rack place V U S S uses)
   where
-    uses : (v : ℕ) → v < N → anyTo m (λ i. S i && V i v) ≡ true → anyTo n (λ i. S i && U i v) ≡ true
-    uses v _ e =
+    uses : (v : ℕ) → anyTo m (λ i. S i && V i v) ≡ true → (v < M) × (anyTo n (λ i. S i && U i v) ≡ true) × (rack v ≡ place v)
+    uses v e =
         let h = any-decides m (λ i. S i && V i v) .0 e in
         let p = and-parts (S (h .0)) _ (h .2) in
         elim (cases-lt (h .0) n) [
-          inl k ↦ any-decides n (λ i. S i && U i v) .1 (h .0, k, and-from _ _ (p .0) (same (h .0) v k (p .1)))
-        | inr k ↦ absurd (both-ways _ (past (h .0) k) (p .0))
+          inl k ↦
+            let q = same (h .0) v k (p .1) in
+            (q .0, any-decides n (λ i. S i && U i v) .1 (h .0, k, and-from _ _ (p .0) (q .1)), q .2)
+        | inr k ↦ absurd (both-ways _ (past (h .0) k (h .1)) (p .0))
         ]
 
 module _ (n N R c : ℕ) (rack : ℕ → ℕ) (U : ℕ → ℕ → Bool) (sized : Sized N R rack U)
@@ -89,7 +96,7 @@ module _ (n N R c : ℕ) (rack : ℕ → ℕ) (U : ℕ → ℕ → Bool) (sized 
   placed-le : (S : ℕ → Bool) → countTo n (λ x. S x && D x) ≤ reachOf n N R c rack U S
   placed-le S = omega (arith, shares S, sum-le R (share S) _ (λ r _. share-le S r))
 
-  -- (i) a set of placed blocks is not larger than its reach
+  -- a set of placed blocks is not larger than its reach
   pub not-tight : (S : ℕ → Bool) → ((x : ℕ) → x < n → S x ≡ true → D x ≡ true) → countTo n S ≤ reachOf n N R c rack U S
   not-tight S sub =
       omega (arith, placed-le S, count-le n S (λ x. S x && D x) (λ k l t. and-from _ _ t (sub k l t)))
@@ -101,7 +108,7 @@ module _ (n N R c : ℕ) (rack : ℕ → ℕ) (U : ℕ → ℕ → Bool) (sized 
   abbrev Held : (ℕ → Bool) → ℕ → ℕ → Type 0
   Held V r v = useful n rack U V r v ≡ true → (x : ℕ) × (x < n) × (at V r x ≡ true) × (a x ≡ v)
 
-  -- (ii) a set with a block that is not placed, and with no node open to it, is tight
+  -- a set with a block that is not placed, and with no node open to it, is tight
   pub tight : (V : ℕ → Bool) (b : ℕ) → b < n → V b ≡ true → D b ≡ false
       → ((v : ℕ) → v < N → anyTo n (λ k. V k && U k v) ≡ true → Covered V v) → reachOf n N R c rack U V < countTo n V
   tight V b l vb db closed =
@@ -130,7 +137,7 @@ module _ (n N R c : ℕ) (rack : ℕ → ℕ) (U : ℕ → ℕ → Bool) (sized 
           ]
 
   module _ (b : ℕ) (rest : (x : ℕ) → x < n → (x ≡ b → ⊥) → D x ≡ true) (T : ℕ → Bool) (small : reachOf n N R c rack U T < countTo n T) where
-    -- (iii) a tight set has the one block that is not placed
+    -- a tight set has the one block that is not placed
     pub has-out : T b ≡ true
     has-out =
         elim (cases-bool (T b)) [

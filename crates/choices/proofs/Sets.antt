@@ -1,8 +1,8 @@
 -- The search's sets: what a move leaves covered, what is forced into every crowded set, and what a failed search has found.
 use mathlib.Core.Path.{_≡_, refl, sym, ap, _∙_}
-use mathlib.Core.Bool.{Bool, true, false, not, _&&_}
+use mathlib.Core.Bool.{Bool, true, _&&_}
 use mathlib.Core.Logic.{_⊎_, inl, inr}
-use Prim.Native.Nat.{ℕ, _^_, _<_, _≤_}
+use Prim.Native.Nat.{ℕ, _<_, _≤_}
 use native.Mathlib.Nat.{le-trans}
 use lib.Dec.{eqb}
 use lib.ListN.{length, getD, set}
@@ -22,7 +22,7 @@ use Rattle.choices.proofs.Moves.{but-yes, but-no}
 pub moved-set : (vs : List ℕ) (x v : ℕ) → x < length vs → Moved (λ k. getD vs k 0) x v (λ k. getD (set vs x v) k 0)
 moved-set vs x v l = record { here = getD-set-same vs x v 0 l; there = λ k ne. getD-set-other vs x k v 0 ne }
 
-module _ (n c : ℕ) (rack : ℕ → ℕ) (U : ℕ → ℕ → Bool) (a : ℕ → ℕ) (x : ℕ) where
+module _ (n c : ℕ) (rack a : ℕ → ℕ) (x : ℕ) where
   pub covered-more : (S T : ℕ → Bool) (v : ℕ) → ((k : ℕ) → S k ≡ true → T k ≡ true) → Covered n c rack a x S v → Covered n c rack a x T v
   covered-more S T v sub h =
       elim h [
@@ -49,27 +49,27 @@ module _ (n c : ℕ) (rack : ℕ → ℕ) (U : ℕ → ℕ → Bool) (a : ℕ �
                 and-from _ _ (and-from _ _ (all k l (but-no x k (t′ .0)) (inr (h .0, eqb-true _ _ (t′ .1)))) (t′ .0)) (t′ .1))))
       ]
 
-  module _ (v : ℕ) (a′ : ℕ → ℕ) (m : Moved a x v a′) (p : Partial n c rack U a x) (u : U x v ≡ true) where
-    -- x takes an open node
-    pub took : Open n c rack a x v → Complete n c rack U a′
-    took o = moves.take n c rack U a a′ x v m (p .placed) u (o .0) (o .1)
+module _ (n c : ℕ) (rack : ℕ → ℕ) (U : ℕ → ℕ → Bool) (a : ℕ → ℕ) (x v : ℕ) (a′ : ℕ → ℕ) (m : Moved a x v a′) (p : Partial n c rack U a x) (u : U x v ≡ true) where
+  -- x takes an open node
+  pub took : Open n c rack a x v → Complete n c rack U a′
+  took o = moves.take n c rack U a a′ x v m (p .placed) u (o .0) (o .1)
 
-    module _ (y : ℕ) (ne : y ≡ x → ⊥) (l : y < n) (way : Way n rack a x y v) where
-      -- x takes the node that y gives up, or one in its rack
-      pub swapped : Partial n c rack U a′ y
-      swapped = record { inside = l; placed = moves.swap n c rack U a a′ x v m (p .placed) u y ne l way }
+  module _ (y : ℕ) (ne : y ≡ x → ⊥) (l : y < n) (way : Way n rack a x y v) where
+    -- x takes the node that y gives up, or one in its rack
+    pub swapped : Partial n c rack U a′ y
+    swapped = record { inside = l; placed = moves.swap n c rack U a a′ x v m (p .placed) u y ne l way }
 
-      -- what is covered after the move was covered before, but for v
-      pub back : (S : ℕ → Bool) → S x ≡ true → S y ≡ true → (z : ℕ) → Covered n c rack a′ y S z → Covered n c rack a x S z ⊎ (z ≡ v)
-      back S sx sy z h =
-          elim h [
-            inl k ↦
-              elim (cases-eq (k .0) x) [
-                inl e ↦ inr (sym (k .4) ∙ ap a′ e ∙ m .here)
-              | inr e ↦ inl (inl (k .0, k .1, k .2, but-yes x (k .0) e, sym (m .there (k .0) e) ∙ k .4))
-              ]
-          | inr k ↦ inl (inr (le-trans k (moves.share-back n c rack U a a′ x v m (p .placed) u y ne l way S sx sy (rack z))))
-          ]
+    -- what is covered after the move was covered before, but for v
+    pub back : (S : ℕ → Bool) → S x ≡ true → S y ≡ true → (z : ℕ) → Covered n c rack a′ y S z → Covered n c rack a x S z ⊎ (z ≡ v)
+    back S sx sy z h =
+        elim h [
+          inl k ↦
+            elim (cases-eq (k .0) x) [
+              inl e ↦ inr (sym (k .4) ∙ ap a′ e ∙ m .here)
+            | inr e ↦ inl (inl (k .0, k .1, k .2, but-yes x (k .0) e, sym (m .there (k .0) e) ∙ k .4))
+            ]
+        | inr k ↦ inl (inr (le-trans k (moves.share-back n c rack U a a′ x v m (p .placed) u y ne l way S sx sy (rack z))))
+        ]
 
 module _ (n N R c : ℕ) (rack : ℕ → ℕ) (U : ℕ → ℕ → Bool) (sized : Sized N R rack U) where
   -- where all blocks are placed, no set is crowded

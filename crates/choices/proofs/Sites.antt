@@ -1,34 +1,30 @@
 -- The search's terms for a site and the copies of some blocks: placements are choices, and crowded sets are tight.
-use mathlib.Core.Path.{_≡_, refl, sym, ap, subst, _∙_}
+use mathlib.Core.Path.{_≡_, refl, sym, ap, subst}
 use mathlib.Core.Bool.{Bool, true, false, _&&_}
 use mathlib.Core.List.{List, [], _∷_, _++_, map}
 use mathlib.Core.Logic.{_⊎_, inl, inr}
-use Prim.Native.Nat.{ℕ, zero, suc, _+_, _^_, min, _<_, _≤_}
-use native.Mathlib.Nat.{le-trans}
+use Prim.Native.Nat.{ℕ, suc, _+_, _^_, min, _<_, _≤_}
 use native.Mathlib.Omega.{arith}
 use lib.Dec.{eqb}
-use lib.Count.{ones}
 use lib.ListN.{length, getD, take}
 use Rattle.std.specs.Iters.{counting}
-use Rattle.std.specs.Orderings.{Decides}
-use Rattle.std.specs.shelf.Lists.{All}
 use Rattle.std.specs.shelf.Maps.{nth}
 use Rattle.std.specs.declared.option.Option.{Option}
 use Rattle.std.specs.declared.option.Option.the-variants.{Some, None}
-use Rattle.std.proofs.shelf.Tests.{cases-bool, cases-lt, eqb-true, eq-eqb, and-parts, and-from, both-ways, false≢true}
-use Rattle.std.proofs.shelf.Ways.{same-from-decides, decides-like}
+use Rattle.std.proofs.shelf.Tests.{cases-lt, and-parts, and-from, false≢true}
+use Rattle.std.proofs.shelf.Ways.{same-from-decides}
 use Rattle.std.proofs.shelf.Lists.{length-append, length-take-le, getD-take, getD-append-left}
 use Rattle.std.proofs.shelf.Maps.{nth-past}
 use Rattle.std.proofs.shelf.Counted.{length-map-counting, getD-map-counting}
 use Rattle.site.specs.Words.{member}
-use Rattle.site.specs.Site.{Site, Place, Limits, keeps, rackOf, place}
+use Rattle.site.specs.Site.{Site, Place, Limits, keeps, rackOf}
 use Rattle.site.proofs.Places.{all-nth}
-use Rattle.choices.specs.Sums.{sumTo, countTo, anyTo}
+use Rattle.choices.specs.Sums.{anyTo}
 use Rattle.choices.specs.Room.{room}
 use Rattle.choices.specs.Choice.{Copies, Choice, has}
 use Rattle.choices.specs.Tight.{reach, Tight, LeastTight}
 use Rattle.choices.specs.Hall.{usable, Some-choice, No-tight}
-use Rattle.choices.specs.Search.{Sized, useful, reachOf, Crowded, Placed, Complete, Partial, Subset}
+use Rattle.choices.specs.Search.{Sized, useful, reachOf, Crowded, Complete, Partial, Subset}
 use Rattle.choices.proofs.Finite.{sum-same, count-same}
 use Rattle.choices.proofs.Words.{ones-count, member-past, member-same, pow-le}
 use Rattle.choices.proofs.Reach.{any-decides, crowded-more}
@@ -80,8 +76,8 @@ module _ (s : Site) (c : ℕ) (bs : List Copies) where
   pub choice-by : (a : ℕ → ℕ) → Complete (length bs) c (rackOf s) (usable s bs) a → Choice s c bs (map a (counting 0 (length bs)))
   choice-by a p =
       choice-of (map a (counting 0 (length bs))) (length-map-counting a 0 (length bs))
-      (placed-same (length bs) c (rackOf s) (usable s bs) (usable s bs) (λ _. true) a (λ i. getD (map a (counting 0 (length bs))) i 0) (λ i v _ u. u)
-        (λ i l. sym (getD-map-counting a 0 (length bs) i i 0 l (omega arith))) p)
+      (placed-same (length bs) c (rackOf s) (rackOf s) (usable s bs) (usable s bs) (λ _. true) a (λ i. getD (map a (counting 0 (length bs))) i 0)
+        (λ i _ _ u. (u, refl)) (λ i l _. sym (getD-map-counting a 0 (length bs) i i 0 l (omega arith))) p)
 
   pub reach-same : (w : ℕ) → reach s c bs w ≡ reachOf (length bs) (length s) 32 c (rackOf s) (usable s bs) (member w)
   unfolding room
@@ -162,8 +158,8 @@ module _ (s : Site) (c : ℕ) (bs ds : List Copies) where
   pub choice-front : (vs : List ℕ) → Choice s c (bs ++ ds) vs → Choice s c bs (take (length bs) vs)
   choice-front vs h =
       choice-of s c bs (take (length bs) vs) (length-take-le (length bs) vs (omega (arith, longer, h .long)))
-      (placed-same (length bs) c (rackOf s) (usable s (bs ++ ds)) (usable s bs) (λ _. true) (λ i. getD vs i 0) (λ i. getD (take (length bs) vs) i 0)
-        (λ i v l u. rw (← (usable-front i v l)) u) (λ i l. sym (getD-take (length bs) vs i 0 l))
+      (placed-same (length bs) c (rackOf s) (rackOf s) (usable s (bs ++ ds)) (usable s bs) (λ _. true) (λ i. getD vs i 0) (λ i. getD (take (length bs) vs) i 0)
+        (λ i l _ u. (rw (← (usable-front i (getD vs i 0) l)) u, refl)) (λ i l _. sym (getD-take (length bs) vs i 0 l))
         (complete-front (length bs) (length (bs ++ ds)) c (rackOf s) (usable s (bs ++ ds)) (λ i. getD vs i 0) longer
           (complete-of s c (bs ++ ds) vs h)))
 
@@ -171,8 +167,9 @@ module _ (s : Site) (c : ℕ) (bs ds : List Copies) where
   pub tight-front : (w : ℕ) → Tight s c bs w → Tight s c (bs ++ ds) w
   tight-front w t =
       tight-of s c (bs ++ ds) w (omega (arith, t .within, pow-le (length bs) (length (bs ++ ds)) longer))
-      (crowded-more (length bs) (length (bs ++ ds)) (length s) 32 c (rackOf s) (usable s bs) (usable s (bs ++ ds)) (member w) longer
-        (λ i v l u. rw (← (usable-front i v l)) u) (λ i l. member-past (length bs) w i (t .within) l) (crowded-of s c bs w t))
+      (crowded-more (length bs) (length (bs ++ ds)) (length s) (length s) 32 c (rackOf s) (rackOf s) (usable s bs) (usable s (bs ++ ds)) (member w) longer
+        (λ i v l u. (keeps-node s v (and-parts (keeps s v) _ u .0), rw (← (usable-front i v l)) u, refl))
+        (λ i l _. member-past (length bs) w i (t .within) l) (crowded-of s c bs w t))
 
 -- a block more: a choice for all, or a least tight set
 pub choice-or-least : (s : Site) (c : ℕ) (bs : List Copies) (b : Copies) → Limits s → (vs : List ℕ) → Choice s c bs vs
@@ -191,8 +188,8 @@ choice-or-least s c bs b l vs h =
     part =
         subst (λ n. Partial n c (rackOf s) (usable s (bs ++ (b ∷ []))) (λ i. getD vs i 0) (length bs)) one-more
         (partial-next (length bs) c (rackOf s) (usable s (bs ++ (b ∷ []))) (λ i. getD vs i 0)
-          (placed-same (length bs) c (rackOf s) (usable s bs) (usable s (bs ++ (b ∷ []))) (λ _. true) (λ i. getD vs i 0) (λ i. getD vs i 0)
-            (λ i v k u. rw (usable-front s c bs (b ∷ []) i v k) u) (λ i _. refl) (complete-of s c bs vs h)))
+          (placed-same (length bs) c (rackOf s) (rackOf s) (usable s bs) (usable s (bs ++ (b ∷ []))) (λ _. true) (λ i. getD vs i 0) (λ i. getD vs i 0)
+            (λ i k _ u. (rw (usable-front s c bs (b ∷ []) i (getD vs i 0) k) u, refl)) (λ i _ _. refl) (complete-of s c bs vs h)))
 
 pub least-exists : (s : Site) (c : ℕ) (bs : List Copies) (b : Copies) → Limits s → Some-choice s c bs → (Some-choice s c (bs ++ (b ∷ [])) → ⊥)
     → (w : ℕ) × LeastTight s c (bs ++ (b ∷ [])) w × ((u : ℕ) → LeastTight s c (bs ++ (b ∷ [])) u → u ≡ w)

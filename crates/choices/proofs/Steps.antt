@@ -1,10 +1,9 @@
 -- The steps of the search's two loops: over the blocks that can give way to x at v, and over the nodes of x.
-use mathlib.Core.Path.{_≡_, refl, sym, ap, subst, _∙_}
-use mathlib.Core.Bool.{Bool, true, false, _||_}
+use mathlib.Core.Path.{_≡_, refl, sym, subst, _∙_}
+use mathlib.Core.Bool.{Bool, true, false}
 use mathlib.Core.Logic.{_⊎_, inl, inr}
-use Prim.Native.Nat.{ℕ, zero, suc, _+_, _^_, _<_, _≤_}
+use Prim.Native.Nat.{ℕ, _+_, _^_, _<_, _≤_}
 use native.Mathlib.Omega.{arith}
-use lib.Dec.{eqb}
 use lib.Bits.{bitOr, or-lt, or-zero-l}
 use Rattle.std.proofs.shelf.Tests.{cases-eq, cases-bool, eqb-true, eq-eqb, both-ways, or-cases, or-left, or-right, or-from, ne-eqb}
 use Rattle.std.proofs.shelf.Bits.{pow-below}
@@ -83,7 +82,7 @@ module _ (n N R c : ℕ) (rack : ℕ → ℕ) (U : ℕ → ℕ → Bool) where
             elim (cases-bool (member w z)) [
               inl d ↦
                 elim (t .new z k d n′ q g) [
-                  inl h ↦ inl (sets.covered-more n c rack U a x (member w) (member w′) q step h)
+                  inl h ↦ inl (sets.covered-more n c rack a x (member w) (member w′) q step h)
                 | inr h ↦ inr h
                 ]
             | inr d ↦
@@ -108,7 +107,7 @@ module _ (n N R c : ℕ) (rack : ℕ → ℕ) (U : ℕ → ℕ → Bool) where
       -- all are tried
       pub trying-all : (w₀ w y : ℕ) → Trying n N R c rack U a x v w₀ w y → n ≤ y → Shut n c rack a x v → Blocked n N R c rack U a x v w₀ w
       trying-all w₀ w y t all shut =
-          let own : Covered n c rack a x (member w) v = sets.closed n c rack U a x (member w) v shut (λ k l. t .passed k (omega arith)) in
+          let own : Covered n c rack a x (member w) v = sets.closed n c rack a x (member w) v shut (λ k l. t .passed k (omega arith)) in
           record {
             grown = t .grown;
             own = own;
@@ -137,13 +136,13 @@ module _ (n N R c : ℕ) (rack : ℕ → ℕ) (U : ℕ → ℕ → Bool) where
           grown = grown-more w₀ w w′ (t .grown) (b .grown);
           new = λ z l m n′.
             elim (cases-bool (member w z)) [
-              inl d ↦ λ q g. sets.covered-more n c rack U a x (member w) (member w′) q (b .grown .more) (t .new z l d n′ q g)
+              inl d ↦ λ q g. sets.covered-more n c rack a x (member w) (member w′) q (b .grown .more) (t .new z l d n′ q g)
             | inr d ↦ b .new z l m d
             ];
           passed = λ k l m.
             elim (cases-eq k i) [
               inl e ↦ rw e (b .own)
-            | inr e ↦ sets.covered-more n c rack U a x (member w) (member w′) (f k) (b .grown .more) (t .passed k (omega arith) m)
+            | inr e ↦ sets.covered-more n c rack a x (member w) (member w′) (f k) (b .grown .more) (t .passed k (omega arith) m)
             ]
         }
 
