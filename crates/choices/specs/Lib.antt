@@ -3,3 +3,5 @@ pub mod Room
 pub mod Choice
 pub mod Tight
 pub mod Plan
+pub mod Search
+pub mod Hall
