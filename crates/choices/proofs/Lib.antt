@@ -1,0 +1,4 @@
+pub mod Finite
+pub mod Nodes
+pub mod Counts
+pub mod Exact
