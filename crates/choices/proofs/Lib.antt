@@ -2,3 +2,4 @@ pub mod Finite
 pub mod Nodes
 pub mod Counts
 pub mod Exact
+pub mod Head

@@ -3,3 +3,4 @@ pub mod Room
 pub mod Choice
 pub mod Tight
 pub mod Plan
+pub mod Order

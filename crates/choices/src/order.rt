@@ -1,9 +1,38 @@
 // The laws of the list of choices and of its head, the first choice.
-ghost use Rattle.choices.specs.Choice.{Choices-exact};
+ghost use Rattle.choices.specs.Choice.{Choices-exact, Head-first};
+ghost use Rattle.choices.specs.Order.{Empty-exact, First-head, First-unique};
 
 /// The list of choices holds the choices and nothing else.
 pub fn choices_exact() -> u8
     ensures { λ _. ⌜ Choices-exact ⌝ }
+{
+    0
+}
+
+/// It is empty exactly where there is no choice.
+pub fn empty_exact() -> u8
+    ensures { λ _. ⌜ Empty-exact ⌝ }
+{
+    0
+}
+
+/// Its head is the first choice.
+pub fn head_first() -> u8
+    ensures { λ _. ⌜ Head-first ⌝ }
+{
+    0
+}
+
+/// There is one first choice at most.
+pub fn first_unique() -> u8
+    ensures { λ _. ⌜ First-unique ⌝ }
+{
+    0
+}
+
+/// The first choice is the head of the list.
+pub fn first_head() -> u8
+    ensures { λ _. ⌜ First-head ⌝ }
 {
     0
 }
