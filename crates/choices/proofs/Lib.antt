@@ -3,3 +3,5 @@ pub mod Nodes
 pub mod Counts
 pub mod Exact
 pub mod Head
+pub mod Narrow
+pub mod Seats
