@@ -15,6 +15,7 @@ use Rattle.std.proofs.shelf.Tests.{cases-bool, cases-eq, eqb-true, eq-eqb, or-c
 use Rattle.site.specs.Site.{Site}
 use Rattle.choices.specs.Choice.{Copies, Choice, has, fits, joined, picks, choices}
 use Rattle.choices.specs.Plan.{firstOf}
+use Rattle.choices.specs.Order.{Narrowed, narrow}
 use Rattle.choices.proofs.Exact.{In, in-kept-by-from, in-choices}
 use Rattle.choices.proofs.Head.{empty-none, none-empty, first-choice}
 
@@ -44,10 +45,6 @@ joined-empty : (f : ℕ → List (List ℕ)) (b : List ℕ) → ((k : ℕ) → k
 joined-empty f [] h = refl
 joined-empty f (v ∷ b) h =
     ap (λ x. x ++ joined f b) (h 0 (omega arith)) ∙ joined-empty f b (λ k m. h (suc k) (omega arith))
-
--- the lists before place i have one node each
-abbrev pub Narrowed : List Copies → ℕ → Type 0
-Narrowed bs i = (k : ℕ) → k < i → length (getD bs k []) ≡ 1
 
 picks-one : (b : List ℕ) (bs : List Copies) → length b ≡ 1 → picks (b ∷ bs) ≡ map (λ vs. getD b 0 0 ∷ vs) (picks bs)
 picks-one [] bs e = absurd (omega arith)
@@ -127,24 +124,22 @@ module _ (s : Site) (c : ℕ) (bs : List Copies) (i : ℕ) (l : i < length bs) (
   choices-split = ap (kept-by (fits s c)) (picks-split bs i l h) ∙ kept-by-joined (fits s c) (λ v. picks (set bs i (v ∷ []))) (getD bs i [])
 
   -- the step: no choice with an earlier node of list i, and one with the node at j
-  pub narrow-step : (j : ℕ) → j < length (getD bs i [])
-      → ((k : ℕ) → k < j → (vs : List ℕ) → Choice s c (set bs i (getD (getD bs i []) k 0 ∷ [])) vs → ⊥)
-      → (us : List ℕ) → Choice s c (set bs i (getD (getD bs i []) j 0 ∷ [])) us
-      → firstOf (choices s c (set bs i (getD (getD bs i []) j 0 ∷ []))) ≡ firstOf (choices s c bs)
-  narrow-step j m before us u =
+  pub narrow-keeps : (j : ℕ) → j < length (getD bs i []) → ((k : ℕ) → k < j → (vs : List ℕ) → Choice s c (narrow bs i k) vs → ⊥)
+      → (us : List ℕ) → Choice s c (narrow bs i j) us → firstOf (choices s c (narrow bs i j)) ≡ firstOf (choices s c bs)
+  narrow-keeps j m before us u =
       let f : ℕ → List (List ℕ) = λ v. choices s c (set bs i (v ∷ [])) in
-      let r = joined-from f (getD bs i []) j m (λ k n. none-empty s c (set bs i (getD (getD bs i []) k 0 ∷ [])) (before k n)) in
+      let r = joined-from f (getD bs i []) j m (λ k n. none-empty s c (narrow bs i k) (before k n)) in
       sym (ap firstOf (choices-split ∙ r .1)
-        ∙ first-append (f (getD (getD bs i []) j 0)) (r .0) (λ e. empty-none s c (set bs i (getD (getD bs i []) j 0 ∷ [])) e us u))
+        ∙ first-append (choices s c (narrow bs i j)) (r .0) (λ e. empty-none s c (narrow bs i j) e us u))
 
   -- no choice with any node of list i: none at all
-  pub narrow-stuck : ((k : ℕ) → k < length (getD bs i []) → (vs : List ℕ) → Choice s c (set bs i (getD (getD bs i []) k 0 ∷ [])) vs → ⊥)
+  pub narrow-stuck : ((k : ℕ) → k < length (getD bs i []) → (vs : List ℕ) → Choice s c (narrow bs i k) vs → ⊥)
       → (vs : List ℕ) → Choice s c bs vs → ⊥
   narrow-stuck none =
       empty-none s c bs
       (choices-split
         ∙ joined-empty (λ v. choices s c (set bs i (v ∷ []))) (getD bs i [])
-          (λ k n. none-empty s c (set bs i (getD (getD bs i []) k 0 ∷ [])) (none k n)))
+          (λ k n. none-empty s c (narrow bs i k) (none k n)))
 
 module _ (s : Site) (c : ℕ) (bs : List Copies) (h : Narrowed bs (length bs)) where
   -- the end: every list has one node, and a choice is those nodes
@@ -153,7 +148,7 @@ module _ (s : Site) (c : ℕ) (bs : List Copies) (h : Narrowed bs (length bs)) w
       let i : In (map (λ b. getD b 0 0) bs ∷ []) vs = rw (narrowed-picks bs h) at (in-kept-by-from (fits s c) (picks bs) vs (in-choices s c bs vs u) .0) in
       elim i [ inl e ↦ sym e | inr z ↦ absurd z ]
 
-  pub narrowed-first : (vs : List ℕ) → Choice s c bs vs → firstOf (choices s c bs) ≡ vs
-  narrowed-first vs u =
+  pub narrow-ends : (vs : List ℕ) → Choice s c bs vs → firstOf (choices s c bs) ≡ vs
+  narrow-ends vs u =
       let o = first-choice s c bs (λ e. empty-none s c bs e vs u) in
       narrowed-nodes (firstOf (choices s c bs)) o ∙ sym (narrowed-nodes vs u)
