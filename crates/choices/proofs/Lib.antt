@@ -5,3 +5,5 @@ pub mod Exact
 pub mod Head
 pub mod Narrow
 pub mod Seats
+pub mod Parity
+pub mod Survive

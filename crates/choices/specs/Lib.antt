@@ -4,3 +4,4 @@ pub mod Choice
 pub mod Tight
 pub mod Plan
 pub mod Order
+pub mod Survive
