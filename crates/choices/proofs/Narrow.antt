@@ -15,7 +15,8 @@ use Rattle.std.proofs.shelf.Tests.{cases-bool, cases-eq, eqb-true, eq-eqb, or-c
 use Rattle.site.specs.Site.{Site}
 use Rattle.choices.specs.Choice.{Copies, Choice, has, fits, joined, picks, choices}
 use Rattle.choices.specs.Plan.{firstOf}
-use Rattle.choices.specs.Order.{Narrowed, narrow}
+use Rattle.choices.specs.Order.{Narrowed, narrow, Narrowing}
+use Rattle.choices.proofs.Nodes.{has-place}
 use Rattle.choices.proofs.Exact.{In, in-kept-by-from, in-choices}
 use Rattle.choices.proofs.Head.{empty-none, none-empty, first-choice}
 
@@ -152,3 +153,29 @@ module _ (s : Site) (c : ℕ) (bs : List Copies) (h : Narrowed bs (length bs)) w
   narrow-ends vs u =
       let o = first-choice s c bs (λ e. empty-none s c bs e vs u) in
       narrowed-nodes (firstOf (choices s c bs)) o ∙ sym (narrowed-nodes vs u)
+
+-- some node of a list leaves a choice: that which a choice in hand has
+pub narrow-found : (s : Site) (c : ℕ) (bs : List Copies) (vs : List ℕ) (i : ℕ) → i < length bs → Choice s c bs vs
+    → (j : ℕ) × (j < length (getD bs i [])) × Choice s c (narrow bs i j) vs
+narrow-found s c bs vs i l h =
+    let p = has-place (getD vs i 0) (getD bs i []) (h .listed i l) in
+    (p .0, p .1, rw (p .2) (choice-narrow s c bs vs i l h))
+
+-- the whole way: the start, a block, the end
+module _ (s : Site) (c : ℕ) (bs : List Copies) where
+  pub narrowing-none : (vs : List ℕ) → Choice s c bs vs → Narrowing s c bs bs 0 vs
+  narrowing-none vs h = record { long = refl; narrowed = narrowed-none bs; first = refl; choice = h }
+
+  pub narrowing-more : (ds : List Copies) (i j : ℕ) (vs us : List ℕ) → Narrowing s c bs ds i vs → i < length bs → j < length (getD ds i [])
+      → ((k : ℕ) → k < j → (ws : List ℕ) → Choice s c (narrow ds i k) ws → ⊥) → Choice s c (narrow ds i j) us → Narrowing s c bs (narrow ds i j) (i + 1) us
+  narrowing-more ds i j vs us n l m before h =
+      let l′ : i < length ds = rw (n .long) l in
+      record {
+        long = length-set ds i (getD (getD ds i []) j 0 ∷ []) ∙ n .long;
+        narrowed = narrowed-more ds i (getD (getD ds i []) j 0) l′ (n .narrowed);
+        first = narrow-keeps s c ds i l′ (n .narrowed) j m before us h ∙ n .first;
+        choice = h;
+      }
+
+  pub narrowing-all : (ds : List Copies) (vs : List ℕ) → Narrowing s c bs ds (length bs) vs → firstOf (choices s c bs) ≡ vs
+  narrowing-all ds vs n = sym (n .first) ∙ narrow-ends s c ds (rw (n .long) (n .narrowed)) vs (n .choice)

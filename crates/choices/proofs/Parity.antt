@@ -48,6 +48,9 @@ pub spaced-choice : (s : Site) (c : ℕ) (bs : List Copies) (vs : List ℕ) → 
 spaced-choice s c bs vs h =
     record { differ = choice-apart s c bs vs h; kept = choice-keeps s c bs vs h; spread = choice-held s c bs vs h }
 
+pub spaced-below : (s : Site) (c : ℕ) (p : List ℕ) → Spaced s c p → (v : ℕ) → has v p ≡ true → v < length s
+spaced-below s c p h v t = keeps-below s v (has-every (keeps s) v p (h .kept) t)
+
 module _ (s : Site) (c : ℕ) where
   free-parts : (taken : List ℕ) (v : ℕ) → free s c taken v ≡ true → (keeps s v ≡ true) × (has v taken ≡ false) × (beside s v taken < c)
   free-parts taken v t =
@@ -139,7 +142,7 @@ module _ (s : Site) (c : ℕ) where
       → ((v : ℕ) → v < length s → keeps s v ≡ true → (has v p ≡ true) ⊎ (c ≤ beside s v p)) → space s c ≤ length p
   unfolding room
   spaced-full p limits h full =
-      let below : (v : ℕ) → has v p ≡ true → v < length s = λ v t. keeps-below s v (has-every (keeps s) v p (h .kept) t) in
+      let below = spaced-below s c p h in
       packed (length s) 32 c (keeps s) (rackOf s) p below (λ v t. rack-below s limits v (below v t)) full
 
   pub parity-full : (n : ℕ) (taken : List ℕ) (start : ℕ) → Limits s → n ≤ space s c → length taken ≤ n → Spaced s c taken
@@ -156,17 +159,18 @@ module _ (s : Site) (c : ℕ) where
           omega (arith, length-append taken X)
       ]
 
-module _ (s : Site) (n c : ℕ) (bs : List Copies) where
-  pub choice-full : (vs : List ℕ) (start : ℕ) → Limits s → n ≤ space s c → length bs ≤ n → Choice s c bs vs
-      → (length (parity s c (n - length bs) vs (round s start)) ≡ n - length bs) × Spaced s c (vs ++ parity s c (n - length bs) vs (round s start))
-  choice-full vs start limits enough l h =
+module _ (s : Site) (n k c : ℕ) (bs : List Copies) where
+  pub choice-full : (vs : List ℕ) (start : ℕ) → Limits s → n ≤ space s c → k ≤ n → length bs ≡ k → Choice s c bs vs
+      → (length (parity s c (n - k) vs (round s start)) ≡ n - k) × Spaced s c (vs ++ parity s c (n - k) vs (round s start))
+  choice-full vs start limits enough l e h =
       let o = spaced-choice s c bs vs h in
-      (rw (h .long) at (parity-full s c n vs start limits enough (rw (h .long) l) o), parity-spaced s c (n - length bs) vs (round s start) o)
+      let long : length vs ≡ k = h .long ∙ e in
+      (rw long at (parity-full s c n vs start limits enough (rw long l) o), parity-spaced s c (n - k) vs (round s start) o)
 
-  pub planned-full : (start : ℕ) → Limits s → n ≤ space s c → length bs ≤ n → (choices s c bs ≡ [] → ⊥)
-      → (length (planned s n (length bs) c bs start) ≡ n) × Spaced s c (planned s n (length bs) c bs start)
-  planned-full start limits enough l some′ =
+  pub planned-full : (start : ℕ) → Limits s → n ≤ space s c → k ≤ n → length bs ≡ k → (choices s c bs ≡ [] → ⊥)
+      → (length (planned s n k c bs start) ≡ n) × Spaced s c (planned s n k c bs start)
+  planned-full start limits enough l e some′ =
       let vs : List ℕ = firstOf (choices s c bs) in
       let h = first-choice s c bs some′ in
-      let r = choice-full vs start limits enough l h in
-      (length-append vs (parity s c (n - length bs) vs (round s start)) ∙ omega (arith, r .0, h .long), r .1)
+      let r = choice-full vs start limits enough l e h in
+      (length-append vs (parity s c (n - k) vs (round s start)) ∙ omega (arith, r .0, h .long), r .1)

@@ -16,15 +16,14 @@ use Rattle.std.proofs.shelf.Bits.{shr-shr, mod-below}
 use Rattle.std.proofs.shelf.Tests.{cases-bool}
 use Rattle.std.proofs.shelf.Ways.{tells}
 use Rattle.site.specs.Words.{member}
-use Rattle.site.specs.Site.{Site, Limits, keeps, rackOf}
+use Rattle.site.specs.Site.{Site, Limits, rackOf}
 use Rattle.choices.specs.Sums.{countTo}
 use Rattle.choices.specs.Room.{space}
-use Rattle.choices.specs.Choice.{Copies, has, choices}
+use Rattle.choices.specs.Choice.{Copies, has, apart, choices}
 use Rattle.choices.specs.Plan.{planned}
-use Rattle.choices.specs.Survive.{Spaced, stand, distinct}
-use Rattle.choices.proofs.Nodes.{has-every}
+use Rattle.choices.specs.Survive.{stand, distinct}
 use Rattle.choices.proofs.Counts.{count-same, count-shift, lost-groups, apart-held}
-use Rattle.choices.proofs.Parity.{keeps-below, rack-below, planned-full}
+use Rattle.choices.proofs.Parity.{rack-below, spaced-below, planned-full}
 
 -- the set digits below any place are at most all of a word's
 pub count-ones : (n w : ℕ) → countTo n (member w) ≤ ones w
@@ -55,18 +54,19 @@ parts a b (v ∷ p) =
     | inr t ↦ elim (cases-bool (b v)) [ inl u ↦ rw (t, u) (omega arith) | inr u ↦ rw (t, u) (omega arith) ]
     ])
 
-pub losses-bounded : (s : Site) (c : ℕ) (p lost : List ℕ) (w : ℕ) → Limits s → Spaced s c p → length p ≤ stand s p lost w + distinct s lost + c * ones w
-losses-bounded s c p lost w limits h =
-    let below : (v : ℕ) → has v p ≡ true → v < length s = λ v t. keeps-below s v (has-every (keeps s) v p (h .kept) t) in
+pub losses-bounded : (s : Site) (c : ℕ) (p lost : List ℕ) (w : ℕ) → Limits s → apart p ≡ true → ((v : ℕ) → has v p ≡ true → v < length s)
+    → ((r : ℕ) → countBy (λ v. eqb (rackOf s v) r) p ≤ c) → length p ≤ stand s p lost w + distinct s lost + c * ones w
+losses-bounded s c p lost w limits differ below spread =
     let nodes : countBy (λ v. has v lost) p ≤ 1 * countTo (length s) (λ v. has v lost) =
-      lost-groups (length s) 1 (λ v. v) (λ v. has v lost) p below (apart-held p (h .differ)) in
+      lost-groups (length s) 1 (λ v. v) (λ v. has v lost) p below (apart-held p differ) in
     let racks : countBy (λ v. member w (rackOf s v)) p ≤ c * countTo 32 (member w) =
-      lost-groups 32 c (rackOf s) (member w) p (λ v t. rack-below s limits v (below v t)) (h .spread) in
+      lost-groups 32 c (rackOf s) (member w) p (λ v t. rack-below s limits v (below v t)) spread in
     omega (arith, parts (λ v. has v lost) (λ v. member w (rackOf s v)) p, mul-le-mul-left c (count-ones 32 w))
 
-pub plan-survives : (s : Site) (n c : ℕ) (bs : List Copies) (start : ℕ) (lost : List ℕ) (w : ℕ) → Limits s → n ≤ space s c → length bs ≤ n
-    → (choices s c bs ≡ [] → ⊥) → distinct s lost + c * ones w ≤ n - length bs → length bs ≤ stand s (planned s n (length bs) c bs start) lost w
-plan-survives s n c bs start lost w limits enough l some′ few =
-    let r = planned-full s n c bs start limits enough l some′ in
-    let b = losses-bounded s c (planned s n (length bs) c bs start) lost w limits (r .1) in
+pub plan-survives : (s : Site) (n k c : ℕ) (bs : List Copies) (start : ℕ) (lost : List ℕ) (w : ℕ) → Limits s → n ≤ space s c → k ≤ n → length bs ≡ k
+    → (choices s c bs ≡ [] → ⊥) → distinct s lost + c * ones w ≤ n - k → k ≤ stand s (planned s n k c bs start) lost w
+plan-survives s n k c bs start lost w limits enough l e some′ few =
+    let r = planned-full s n k c bs start limits enough l e some′ in
+    let p : List ℕ = planned s n k c bs start in
+    let b = losses-bounded s c p lost w limits (r .1 .differ) (spaced-below s c p (r .1)) (r .1 .spread) in
     omega (arith, r .0)

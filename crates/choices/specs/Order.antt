@@ -7,6 +7,7 @@ use lib.ListN.{length, getD, set}
 use Rattle.std.specs.shelf.Lists.{Has, kept-by}
 use Rattle.site.specs.Site.{Site, keeps}
 use Rattle.choices.specs.Choice.{Copies, Choice, First, apart, choices}
+use Rattle.choices.specs.Tight.{reach}
 use Rattle.choices.specs.Plan.{firstOf}
 
 -- the list is empty exactly where there is no choice
@@ -26,7 +27,8 @@ First-head = (s : Site) (c : ℕ) (bs : List Copies) (vs : List ℕ)
 
 -- no other node than the yes nodes counts
 abbrev pub Yes-enough : Type 0
-Yes-enough = (s : Site) (c : ℕ) (bs : List Copies) → choices s c (map (kept-by (keeps s)) bs) ≡ choices s c bs
+Yes-enough = (s : Site) (c : ℕ) (bs : List Copies)
+  → (choices s c (map (kept-by (keeps s)) bs) ≡ choices s c bs) × ((w : ℕ) → reach s c (map (kept-by (keeps s)) bs) w ≡ reach s c bs w)
 
 -- How the first choice is found with no list of choices at hand: block after block, the list is narrowed to its earliest node that
 -- leaves a choice for all.
@@ -38,6 +40,13 @@ Narrowed bs i = (k : ℕ) → k < i → length (getD bs k []) ≡ 1
 -- list i with its node at place j alone
 abbrev pub narrow : List Copies → ℕ → ℕ → List Copies
 narrow bs i j = set bs i (getD (getD bs i []) j 0 ∷ [])
+
+-- ds are the lists bs narrowed before place i, and vs is a choice of them
+pub record Narrowing (s : Site) (c : ℕ) (bs ds : List Copies) (i : ℕ) (vs : List ℕ) : Type 0 where
+  pub long : length ds ≡ length bs
+  pub narrowed : Narrowed ds i
+  pub first : firstOf (choices s c ds) ≡ firstOf (choices s c bs)
+  pub choice : Choice s c ds vs
 
 -- a step keeps the first choice
 abbrev pub Narrow-keeps : Type 0
