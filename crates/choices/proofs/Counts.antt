@@ -1,16 +1,16 @@
 -- Counts over a list against counts over its places, and a list's count by the values of a function.
 use mathlib.Core.Path.{_≡_, refl, sym, ap, ap₂, _∙_}
-use mathlib.Core.Bool.{Bool, true, false, cond, not, _&&_, _||_}
+use mathlib.Core.Bool.{Bool, true, false, cond, _&&_}
 use mathlib.Core.Logic.{_⊎_, inl, inr}
-use mathlib.Core.List.{List, [], _∷_, _++_, map}
-use Prim.Native.Nat.{ℕ, zero, suc, _+_, _-_, _*_, _<_, _≤_, min}
+use mathlib.Core.List.{List, [], _∷_, _++_}
+use Prim.Native.Nat.{ℕ, zero, suc, _+_, _*_, _<_, _≤_, min}
 use native.Mathlib.Nat.{min-le-left, min-le-right, mul-add}
 use native.Mathlib.Omega.{arith}
 use lib.Dec.{eqb, leb}
 use lib.ListN.{length, getD}
 use Rattle.std.specs.shelf.Lists.{countBy}
 use Rattle.std.proofs.shelf.Sums.{sumBy-cons, sumBy-push, sumBy-append}
-use Rattle.std.proofs.shelf.Tests.{cases-eq, cases-lt, cases-bool, eqb-true, eq-eqb, leb-true, and-parts, and-from, or-left, or-right, both-ways}
+use Rattle.std.proofs.shelf.Tests.{cases-lt, cases-bool, eqb-true, eq-eqb, leb-true, and-parts, or-left, or-right, both-ways}
 use Rattle.choices.specs.Sums.{sumTo, countTo}
 use Rattle.choices.specs.Choice.{has, every, apart}
 use Rattle.choices.proofs.Finite.{sum-le, fibers, cover, count-one}

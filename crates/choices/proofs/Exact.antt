@@ -1,6 +1,6 @@
 -- The list of choices holds the choices and nothing else.
-use mathlib.Core.Path.{_≡_, refl, sym, ap, _∙_}
-use mathlib.Core.Bool.{Bool, true, false, cond, _&&_}
+use mathlib.Core.Path.{_≡_, refl, ap}
+use mathlib.Core.Bool.{Bool, true, false}
 use mathlib.Core.Logic.{_⊎_, inl, inr}
 use mathlib.Core.List.{List, [], _∷_, _++_, map}
 use Prim.Native.Nat.{ℕ, zero, suc, _<_, _≤_}
@@ -10,7 +10,6 @@ use lib.ListN.{length, getD}
 use Rattle.std.specs.shelf.Lists.{countBy, kept-by, Has}
 use Rattle.std.proofs.shelf.Tests.{cases-bool, eqb-true, eq-eqb, le-leb, and-parts, and-from, or-cases, or-left, or-right, both-ways}
 use Rattle.site.specs.Site.{Site, keeps, rackOf}
-use Rattle.choices.specs.Sums.{countTo}
 use Rattle.choices.specs.Choice.{Copies, Choice, has, every, apart, beside, fits, joined, picks, choices}
 use Rattle.choices.proofs.Nodes.{every-getD, every-from-getD, apart-differ, apart-from-differ}
 use Rattle.choices.proofs.Counts.{count-list, groups-held}

@@ -1,9 +1,9 @@
 -- The list of choices is in the plan's order, so its head is the first choice; where no list names a node twice it is the only one.
 use mathlib.Core.Path.{_≡_, refl, sym, ap, ap₂, _∙_}
-use mathlib.Core.Bool.{Bool, true, false, cond}
+use mathlib.Core.Bool.{Bool, true, false}
 use mathlib.Core.Logic.{_⊎_, inl, inr}
 use mathlib.Core.List.{List, [], _∷_, _++_, map}
-use Prim.Native.Nat.{ℕ, zero, suc, _<_, _≤_}
+use Prim.Native.Nat.{ℕ, zero, suc, _<_}
 use native.Mathlib.Omega.{arith}
 use lib.Dec.{eqb}
 use lib.ListN.{length, getD}
@@ -14,7 +14,7 @@ use Rattle.site.specs.Site.{Site}
 use Rattle.choices.specs.Choice.{Copies, Choice, Before, First, has, apart, fits, joined, picks, choices}
 use Rattle.choices.specs.Plan.{firstOf}
 use Rattle.choices.proofs.Nodes.{apart-differ}
-use Rattle.choices.proofs.Exact.{In, in-has, has-in, in-append-cases, in-kept-by-from, in-map-from, in-joined-from, in-choices, in-choices-from}
+use Rattle.choices.proofs.Exact.{In, in-has, in-append-cases, in-kept-by-from, in-map-from, in-joined-from, in-choices, in-choices-from}
 
 -- each element stands in R to all behind it
 abbrev pub Ordered : {X : Type 0} → (X → X → Type 0) → List X → Type 0

@@ -1,17 +1,17 @@
 -- The first choice without listing the choices. Block after block, a list is narrowed to its earliest node that leaves a choice
 -- for all; that keeps the first choice, and once every list has one node it is those nodes.
 use mathlib.Core.Path.{_≡_, refl, sym, ap, _∙_}
-use mathlib.Core.Bool.{Bool, true, false, cond}
-use mathlib.Core.Logic.{_⊎_, inl, inr, _≢_}
+use mathlib.Core.Bool.{Bool, true, false}
+use mathlib.Core.Logic.{inl, inr}
 use mathlib.Core.List.{List, [], _∷_, _++_, map}
-use Prim.Native.Nat.{ℕ, zero, suc, _+_, _<_, _≤_}
+use Prim.Native.Nat.{ℕ, zero, suc, _+_, _<_}
 use native.Mathlib.Omega.{arith}
 use lib.Dec.{eqb}
 use lib.ListN.{length, getD, set}
 use Rattle.std.specs.shelf.Lists.{kept-by}
-use Rattle.std.proofs.shelf.Lists.{append-nil, append-assoc, map-append, length-set, getD-set-same, getD-set-other}
+use Rattle.std.proofs.shelf.Lists.{append-nil, map-append, length-set, getD-set-same, getD-set-other}
 use Rattle.std.proofs.shelf.Elements.{kept-by-append}
-use Rattle.std.proofs.shelf.Tests.{cases-bool, cases-eq, eqb-true, eq-eqb, or-cases, or-left, both-ways}
+use Rattle.std.proofs.shelf.Tests.{cases-eq, eqb-true, eq-eqb, or-cases, or-left, both-ways}
 use Rattle.site.specs.Site.{Site}
 use Rattle.choices.specs.Choice.{Copies, Choice, has, fits, joined, picks, choices}
 use Rattle.choices.specs.Plan.{firstOf}

@@ -1,20 +1,20 @@
 -- The parity nodes never run out. If the visit of all nodes took too few, each yes node that is not planned lies in a rack with c
 -- planned blocks; then the plan has all that the site has space for.
-use mathlib.Core.Path.{_≡_, refl, sym, ap, _∙_}
-use mathlib.Core.Bool.{Bool, true, false, cond, _&&_, not}
+use mathlib.Core.Path.{_≡_, refl, ap, _∙_}
+use mathlib.Core.Bool.{true, false, not}
 use mathlib.Core.Logic.{_⊎_, inl, inr}
 use mathlib.Core.List.{List, [], _∷_, _++_}
-use Prim.Native.Nat.{ℕ, zero, suc, _+_, _-_, _<_, _≤_}
+use Prim.Native.Nat.{ℕ, zero, suc, _-_, _<_, _≤_}
 use native.Mathlib.Omega.{arith}
-use lib.Dec.{eqb, ltb}
+use lib.Dec.{eqb}
 use lib.ListN.{length}
 use Rattle.std.specs.Iters.{counting}
 use Rattle.std.specs.shelf.Lists.{All, countBy}
 use Rattle.std.proofs.shelf.Lists.{append-nil, append-assoc, length-append}
-use Rattle.std.proofs.shelf.Tests.{cases-bool, cases-lt, eqb-true, eq-eqb, ltb-true, ltb-false, and-parts, and-cases, or-cases, or-left, not-true, not-false, both-ways}
+use Rattle.std.proofs.shelf.Tests.{cases-bool, cases-lt, eqb-true, ltb-true, ltb-false, and-parts, and-cases, or-cases, or-left, not-true, not-false, both-ways}
 use Rattle.site.specs.Site.{Site, Limits, keeps, rackOf}
 use Rattle.choices.specs.Room.{room, space}
-use Rattle.choices.specs.Choice.{Copies, Choice, has, every, apart, beside, choices}
+use Rattle.choices.specs.Choice.{Copies, Choice, has, beside, choices}
 use Rattle.choices.specs.Plan.{round, free, parity, firstOf, planned}
 use Rattle.choices.specs.Survive.{Spaced}
 use Rattle.choices.proofs.Nodes.{every-push, apart-push, has-every, has-append-left, has-append-right, has-counting}

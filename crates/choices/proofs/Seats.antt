@@ -1,24 +1,23 @@
 -- Lists cut down to their yes nodes have the same choices, the same reach and the same tight sets.
 use mathlib.Core.Path.{_≡_, refl, sym, ap, ap₂, _∙_}
-use mathlib.Core.Bool.{Bool, true, false, cond, _&&_, _||_}
-use mathlib.Core.Logic.{_⊎_, inl, inr}
+use mathlib.Core.Bool.{Bool, true, false, _&&_, _||_}
+use mathlib.Core.Logic.{inl, inr}
 use mathlib.Core.List.{List, [], _∷_, _++_, map}
-use Prim.Native.Nat.{ℕ, zero, suc, _+_, _<_, _≤_, _^_, min}
+use Prim.Native.Nat.{ℕ, zero, suc, _<_, min}
 use native.Mathlib.Omega.{arith}
 use lib.Dec.{eqb}
-use lib.Count.{ones}
 use lib.ListN.{length, getD, length-map}
 use Rattle.std.specs.shelf.Lists.{kept-by}
 use Rattle.std.proofs.shelf.Lists.{getD-map}
-use Rattle.std.proofs.shelf.Tests.{cases-bool, and-parts, and-left, and-right, eqb-true, ne-eqb, both-ways}
+use Rattle.std.proofs.shelf.Tests.{cases-bool, and-parts, and-left, and-right, ne-eqb, both-ways}
 use Rattle.site.specs.Words.{member}
 use Rattle.site.specs.Site.{Site, keeps, rackOf}
-use Rattle.choices.specs.Sums.{sumTo, countTo, anyTo}
+use Rattle.choices.specs.Sums.{anyTo}
 use Rattle.choices.specs.Room.{room}
 use Rattle.choices.specs.Choice.{Copies, Choice, has, every, fits, joined, picks, choices}
 use Rattle.choices.specs.Tight.{reach, Tight, LeastTight}
 use Rattle.choices.proofs.Counts.{count-same, sum-same}
-use Rattle.choices.proofs.Exact.{In, in-choices, in-choices-from}
+use Rattle.choices.proofs.Exact.{in-choices, in-choices-from}
 use Rattle.choices.proofs.Narrow.{joined-same, kept-by-joined}
 
 kept-by-map : (p : List ℕ → Bool) (g : List ℕ → List ℕ) (xs : List (List ℕ)) → kept-by p (map g xs) ≡ map g (kept-by (λ x. p (g x)) xs)
