@@ -62,12 +62,12 @@ module _ (p : ℕ → Bool) where
   countBy-some [] = inl refl
   countBy-some (v ∷ vs) =
       elim (cases-bool (p v)) [
-        inl t ↦ inr (v, or-left (eqb v v) _ (eq-eqb v v refl), t)
-      | inr t ↦
-          elim (countBy-some vs) [
-            inl z ↦ inl (countBy-no v vs t ∙ z)
-          | inr w ↦ inr (w .0, or-right (eqb (w .0) v) _ (w .1), w .2)
-          ]
+        | inl t ↦ inr (v, or-left (eqb v v) _ (eq-eqb v v refl), t)
+        | inr t ↦
+            elim (countBy-some vs) [
+              | inl z ↦ inl (countBy-no v vs t ∙ z)
+              | inr w ↦ inr (w .0, or-right (eqb (w .0) v) _ (w .1), w .2)
+            ]
       ]
 
 -- groups are held where the group of each member is
@@ -75,10 +75,10 @@ pub groups-held : (group : ℕ → ℕ) (c : ℕ) (vs : List ℕ) → every (λ 
     → (r : ℕ) → countBy (λ w. eqb (group w) r) vs ≤ c
 groups-held group c vs h r =
     elim (countBy-some (λ w. eqb (group w) r) vs) [
-      inl z ↦ omega arith
-    | inr w ↦
-        let t = leb-true _ c (has-every (λ v. leb (countBy (λ w. eqb (group w) (group v)) vs) c) (w .0) vs h (w .1)) in
-        rw (eqb-true (group (w .0)) r (w .2)) at t
+      | inl z ↦ omega arith
+      | inr w ↦
+          let t = leb-true _ c (has-every (λ v. leb (countBy (λ w. eqb (group w) (group v)) vs) c) (w .0) vs h (w .1)) in
+          rw (eqb-true (group (w .0)) r (w .2)) at t
     ]
 
 pub countBy-le : (p q : ℕ → Bool) → ((v : ℕ) → p v ≡ true → q v ≡ true) → (vs : List ℕ) → countBy p vs ≤ countBy q vs
@@ -86,8 +86,8 @@ countBy-le p q h [] = omega arith
 countBy-le p q h (v ∷ vs) =
     let i = countBy-le p q h vs in
     elim (cases-bool (p v)) [
-      inl t ↦ omega (arith, countBy-yes p v vs t, countBy-yes q v vs (h v t))
-    | inr t ↦ omega (arith, countBy-no p v vs t, sumBy-cons (λ x. cond (q x) 1 0) v vs)
+      | inl t ↦ omega (arith, countBy-yes p v vs t, countBy-yes q v vs (h v t))
+      | inr t ↦ omega (arith, countBy-no p v vs t, sumBy-cons (λ x. cond (q x) 1 0) v vs)
     ]
 
 pub countBy-all : (vs : List ℕ) → countBy (λ _. true) vs ≡ length vs
@@ -115,19 +115,19 @@ packed n m c keep group p below grouped full =
     at r _ =
         let x : ℕ = countTo n (λ v. keep v && eqb (group v) r) in
         elim (cases-lt (countBy (λ v. eqb (group v) r) p) c) [
-          inr l ↦ omega (arith, min-le-left c x)
-        | inl l ↦
-            let k : x ≤ countTo (length p) (λ i. eqb (group (getD p i 0)) r) =
+          | inr l ↦ omega (arith, min-le-left c x)
+          | inl l ↦
+              let k : x ≤ countTo (length p) (λ i. eqb (group (getD p i 0)) r) =
               cover (length p) n (λ i. eqb (group (getD p i 0)) r) (λ v. keep v && eqb (group v) r) (λ i. getD p i 0)
               (λ i m _. below (getD p i 0) (has-at p i m))
               (λ v m t.
-                let a = and-parts (keep v) _ t in
-                let e = eqb-true (group v) r (a .1) in
-                elim (full v m (a .0)) [
-                  inl u ↦ let o = has-place v p u in (o .0, o .1, eq-eqb (group (getD p (o .0) 0)) r (ap group (o .2) ∙ e), o .2)
+              let a = and-parts (keep v) _ t in
+              let e = eqb-true (group v) r (a .1) in
+              elim (full v m (a .0)) [
+                | inl u ↦ let o = has-place v p u in (o .0, o .1, eq-eqb (group (getD p (o .0) 0)) r (ap group (o .2) ∙ e), o .2)
                 | inr u ↦ let g : c ≤ countBy (λ w. eqb (group w) r) p = rw e at u in absurd (omega arith)
-                ]) in
-            omega (arith, min-le-right c x, count-list (λ v. eqb (group v) r) p)
+              ]) in
+              omega (arith, min-le-right c x, count-list (λ v. eqb (group v) r) p)
         ]
 
 sum-times : (m c : ℕ) (p : ℕ → Bool) → sumTo m (λ r. cond (p r) c 0) ≡ c * countTo m p
@@ -136,8 +136,8 @@ sum-times zero c p = omega arith
 sum-times (suc m) c p =
     let i : sumTo m (λ r. cond (p r) c 0) ≡ c * countTo m p = sum-times m c p in
     elim (cases-bool (p m)) [
-      inl t ↦ rw t (omega (arith, mul-add c 1 (countTo m p)))
-    | inr t ↦ rw t (omega (arith, mul-add c 0 (countTo m p)))
+      | inl t ↦ rw t (omega (arith, mul-add c 1 (countTo m p)))
+      | inr t ↦ rw t (omega (arith, mul-add c 0 (countTo m p)))
     ]
 
 -- with each lost group go at most as many as a group holds
@@ -150,21 +150,27 @@ lost-groups m c group lost p below held =
     at : (r : ℕ) → r < m → countBy (λ v. lost (group v) && eqb (group v) r) p ≤ cond (lost r) c 0
     at r _ =
         elim (cases-bool (lost r)) [
-          inl t ↦
-            rw t (omega (arith, held r,
-              countBy-le (λ v. lost (group v) && eqb (group v) r) (λ v. eqb (group v) r) (λ v u. and-parts (lost (group v)) _ u .1) p))
-        | inr t ↦
-            elim (countBy-some (λ v. lost (group v) && eqb (group v) r) p) [
-              inl z ↦ rw t (omega arith)
-            | inr w ↦
-                let a = and-parts (lost (group (w .0))) _ (w .2) in
-                absurd (both-ways (lost r) t (rw (eqb-true (group (w .0)) r (a .1)) at (a .0)))
-            ]
+          | inl t ↦
+              rw t (omega (
+                arith,
+                held r,
+                countBy-le (λ v. lost (group v) && eqb (group v) r) (λ v. eqb (group v) r) (λ v u. and-parts (lost (group v)) _ u .1) p,
+              ))
+          | inr t ↦
+              elim (countBy-some (λ v. lost (group v) && eqb (group v) r) p) [
+                | inl z ↦ rw t (omega arith)
+                | inr w ↦
+                    let a = and-parts (lost (group (w .0))) _ (w .2) in
+                    absurd (both-ways (lost r) t (rw (eqb-true (group (w .0)) r (a .1)) at (a .0)))
+              ]
         ]
 
 -- nodes that are all different are groups that hold one each
 pub apart-held : (p : List ℕ) → apart p ≡ true → (r : ℕ) → countBy (λ v. eqb v r) p ≤ 1
 apart-held p h r =
-    omega (arith, count-list (λ v. eqb v r) p,
+    omega (
+      arith,
+      count-list (λ v. eqb v r) p,
       count-one (length p) (λ i. eqb (getD p i 0) r)
-      (λ j k a b s t. apart-differ p h j k a b (eqb-true (getD p j 0) r s ∙ sym (eqb-true (getD p k 0) r t))))
+          (λ j k a b s t. apart-differ p h j k a b (eqb-true (getD p j 0) r s ∙ sym (eqb-true (getD p k 0) r t))),
+    )

@@ -57,12 +57,12 @@ module _ {X : Type 0} where
   in-kept-by-from p [] x h = absurd h
   in-kept-by-from p (y ∷ ys) x h =
       elim (cases-bool (p y)) [
-        inl u ↦
-          let g : (y ≡ x) ⊎ In (kept-by p ys) x = rw u at h in
-          elim g [ inl e ↦ (inl e, rw (← e) u) | inr i ↦ let r = in-kept-by-from p ys x i in (inr (r .0), r .1) ]
-      | inr u ↦
-          let g : In (kept-by p ys) x = rw u at h in
-          let r = in-kept-by-from p ys x g in (inr (r .0), r .1)
+        | inl u ↦
+            let g : (y ≡ x) ⊎ In (kept-by p ys) x = rw u at h in
+            elim g [ inl e ↦ (inl e, rw (← e) u) | inr i ↦ let r = in-kept-by-from p ys x i in (inr (r .0), r .1) ]
+        | inr u ↦
+            let g : In (kept-by p ys) x = rw u at h in
+            let r = in-kept-by-from p ys x g in (inr (r .0), r .1)
       ]
 
   pub in-map : {Y : Type 0} (f : X → Y) (xs : List X) (x : X) → In xs x → In (map f xs) (f x)
@@ -79,16 +79,16 @@ pub in-joined : (f : ℕ → List (List ℕ)) (b : List ℕ) (v : ℕ) (x : List
 in-joined f [] v x h i = absurd (both-ways false refl h)
 in-joined f (w ∷ b) v x h i =
     elim (or-cases (eqb v w) _ h) [
-      inl t ↦ in-append-left (f w) (joined f b) x (rw (eqb-true v w t) at i)
-    | inr t ↦ in-append-right (f w) (joined f b) x (in-joined f b v x t i)
+      | inl t ↦ in-append-left (f w) (joined f b) x (rw (eqb-true v w t) at i)
+      | inr t ↦ in-append-right (f w) (joined f b) x (in-joined f b v x t i)
     ]
 
 pub in-joined-from : (f : ℕ → List (List ℕ)) (b : List ℕ) (x : List ℕ) → In (joined f b) x → (v : ℕ) × (has v b ≡ true) × In (f v) x
 in-joined-from f [] x h = absurd h
 in-joined-from f (w ∷ b) x h =
     elim (in-append-cases (f w) (joined f b) x h) [
-      inl i ↦ (w, or-left (eqb w w) _ (eq-eqb w w refl), i)
-    | inr i ↦ let r = in-joined-from f b x i in (r .0, or-right (eqb (r .0) w) _ (r .1), r .2)
+      | inl i ↦ (w, or-left (eqb w w) _ (eq-eqb w w refl), i)
+      | inr i ↦ let r = in-joined-from f b x i in (r .0, or-right (eqb (r .0) w) _ (r .1), r .2)
     ]
 
 -- one node from each list
@@ -147,7 +147,7 @@ module _ (s : Site) (c : ℕ) (bs : List Copies) (vs : List ℕ) where
   choice-fits h =
       and-from (every (keeps s) vs) _ (choice-keeps h)
       (and-from (apart vs) _ (choice-apart h)
-        (every-from-getD (λ v. leb (beside s v vs) c) vs 0 (λ i l. le-leb (beside s (getD vs i 0) vs) c (choice-held h (rackOf s (getD vs i 0))))))
+      (every-from-getD (λ v. leb (beside s v vs) c) vs 0 (λ i l. le-leb (beside s (getD vs i 0) vs) c (choice-held h (rackOf s (getD vs i 0))))))
 
   pub choice-picked : Choice s c bs vs → Picked bs vs
   choice-picked h = picked-from bs vs (h .long) (h .listed)

@@ -30,8 +30,8 @@ module _ {X : Type 0} (R : X → X → Type 0) where
   ordered-kept-by p [] o = tt
   ordered-kept-by p (x ∷ xs) o =
       elim (cases-bool (p x)) [
-        inl t ↦ rw t ((λ y i. o .0 y (in-kept-by-from p xs y i .0)), ordered-kept-by p xs (o .1))
-      | inr t ↦ rw t (ordered-kept-by p xs (o .1))
+        | inl t ↦ rw t ((λ y i. o .0 y (in-kept-by-from p xs y i .0)), ordered-kept-by p xs (o .1))
+        | inr t ↦ rw t (ordered-kept-by p xs (o .1))
       ]
 
   pub ordered-append : (xs ys : List X) → Ordered R xs → Ordered R ys → ((x y : X) → In xs x → In ys y → R x y) → Ordered R (xs ++ ys)
@@ -61,9 +61,10 @@ before-more b u v w h = (suc (h .0), suc (h .1), omega (arith, h .2), omega (ari
 
 before-ordered : (b : List ℕ) → Ordered (Before b) b
 before-ordered [] = tt
-before-ordered (v ∷ b) =
-    ((λ y i. let p = in-has b y i in (0, suc (p .0), omega arith, omega (arith, p .1), refl, p .2 0)),
-      ordered-weaker (Before b) (Before (v ∷ b)) (λ x y. before-more b v x y) b (before-ordered b))
+before-ordered (v ∷ b) = (
+  (λ y i. let p = in-has b y i in (0, suc (p .0), omega arith, omega (arith, p .1), refl, p .2 0)),
+  ordered-weaker (Before b) (Before (v ∷ b)) (λ x y. before-more b v x y) b (before-ordered b),
+)
 
 -- us comes before vs: in the first list where they differ it has the earlier node
 abbrev pub Sooner : List Copies → List ℕ → List ℕ → Type 0
@@ -78,9 +79,9 @@ picks-ordered (b ∷ bs) =
     ordered-joined (Sooner (b ∷ bs)) (λ v. map (λ vs. v ∷ vs) (picks bs)) (Before b)
     (λ v. ordered-map (Sooner bs) (Sooner (b ∷ bs)) (λ vs. v ∷ vs) (λ x y h. inr (refl, h)) (picks bs) (picks-ordered bs))
     (λ v w x y h i j.
-      let m = in-map-from (λ vs. v ∷ vs) (picks bs) x i in
-      let n = in-map-from (λ vs. w ∷ vs) (picks bs) y j in
-      rw (← m .2, ← n .2) (inl h))
+    let m = in-map-from (λ vs. v ∷ vs) (picks bs) x i in
+    let n = in-map-from (λ vs. w ∷ vs) (picks bs) y j in
+    rw (← m .2, ← n .2) (inl h))
     b (before-ordered b)
 
 abbrev Parted : List Copies → List ℕ → List ℕ → Type 0
@@ -105,8 +106,8 @@ head-first s c bs vs more e =
     record {
       choice = in-choices-from s c bs vs (rw e (inl refl));
       earliest = λ us h ne.
-        let i : (vs ≡ us) ⊎ In more us = rw e at (in-choices s c bs us h) in
-        elim i [ inl q ↦ absurd (ne (sym q)) | inr j ↦ sooner-parted bs vs us (o .0 us j) ];
+          let i : (vs ≡ us) ⊎ In more us = rw e at (in-choices s c bs us h) in
+          elim i [ inl q ↦ absurd (ne (sym q)) | inr j ↦ sooner-parted bs vs us (o .0 us j) ];
     }
 
 -- none, or a first
@@ -121,23 +122,23 @@ module _ (s : Site) (c : ℕ) (bs : List Copies) where
   pub none-empty : ((vs : List ℕ) → Choice s c bs vs → ⊥) → choices s c bs ≡ []
   none-empty h =
       elim (empty-or (choices s c bs)) [
-        inl e ↦ e
-      | inr m ↦ absurd (h (m .0) (in-choices-from s c bs (m .0) (rw (m .2) (inl refl))))
+        | inl e ↦ e
+        | inr m ↦ absurd (h (m .0) (in-choices-from s c bs (m .0) (rw (m .2) (inl refl))))
       ]
 
   -- where there is a choice, the head of the list is one
   pub first-choice : (choices s c bs ≡ [] → ⊥) → Choice s c bs (firstOf (choices s c bs))
   first-choice h =
       elim (empty-or (choices s c bs)) [
-        inl e ↦ absurd (h e)
-      | inr m ↦ rw (m .2) (head-first s c bs (m .0) (m .1) (m .2) .choice)
+        | inl e ↦ absurd (h e)
+        | inr m ↦ rw (m .2) (head-first s c bs (m .0) (m .1) (m .2) .choice)
       ]
 
   pub first-first : (choices s c bs ≡ [] → ⊥) → First s c bs (firstOf (choices s c bs))
   first-first h =
       elim (empty-or (choices s c bs)) [
-        inl e ↦ absurd (h e)
-      | inr m ↦ rw (m .2) (head-first s c bs (m .0) (m .1) (m .2))
+        | inl e ↦ absurd (h e)
+        | inr m ↦ rw (m .2) (head-first s c bs (m .0) (m .1) (m .2))
       ]
 
 cases-list : (us vs : List ℕ) → (us ≡ vs) ⊎ (us ≡ vs → ⊥)
@@ -146,12 +147,12 @@ cases-list [] (v ∷ vs) = inr (λ e. let z : _≡_ {A = ℕ} 0 1 = cc in omega 
 cases-list (u ∷ us) [] = inr (λ e. let z : _≡_ {A = ℕ} 0 1 = cc in omega arith)
 cases-list (u ∷ us) (v ∷ vs) =
     elim (cases-eq u v) [
-      inl p ↦
-        elim (cases-list us vs) [
-          inl q ↦ inl (ap₂ (λ x y. x ∷ y) p q)
-        | inr q ↦ inr (λ e. let z : us ≡ vs = cc in q z)
-        ]
-    | inr p ↦ inr (λ e. let z : u ≡ v = cc in p z)
+      | inl p ↦
+          elim (cases-list us vs) [
+            | inl q ↦ inl (ap₂ (λ x y. x ∷ y) p q)
+            | inr q ↦ inr (λ e. let z : us ≡ vs = cc in q z)
+          ]
+      | inr p ↦ inr (λ e. let z : u ≡ v = cc in p z)
     ]
 
 module _ (b : List ℕ) (alone : apart b ≡ true) where
@@ -173,26 +174,26 @@ module _ (s : Site) (c : ℕ) (bs : List Copies) (vs : List ℕ) (alone : (b : L
   parted-once : (us : List ℕ) → Parted bs vs us → Parted bs us vs → ⊥
   parted-once us p q =
       elim (cases-order (p .0) (q .0)) [
-        inl e ↦
-          before-asym (getD bs (p .0) []) (at-place (p .0) (p .1)) (getD vs (p .0) 0) (getD us (p .0) 0) (p .3)
-          (rw e (q .3))
-      | inr n ↦
-          elim n [
-            inl l ↦ before-differ (getD bs (p .0) []) (at-place (p .0) (p .1)) (getD vs (p .0) 0) (getD us (p .0) 0) (p .3) (q .2 (p .0) l)
-          | inr l ↦ before-differ (getD bs (q .0) []) (at-place (q .0) (q .1)) (getD us (q .0) 0) (getD vs (q .0) 0) (q .3) (p .2 (q .0) l)
-          ]
+        | inl e ↦
+            before-asym (getD bs (p .0) []) (at-place (p .0) (p .1)) (getD vs (p .0) 0) (getD us (p .0) 0) (p .3)
+            (rw e (q .3))
+        | inr n ↦
+            elim n [
+              | inl l ↦ before-differ (getD bs (p .0) []) (at-place (p .0) (p .1)) (getD vs (p .0) 0) (getD us (p .0) 0) (p .3) (q .2 (p .0) l)
+              | inr l ↦ before-differ (getD bs (q .0) []) (at-place (q .0) (q .1)) (getD us (q .0) 0) (getD vs (q .0) 0) (q .3) (p .2 (q .0) l)
+            ]
       ]
 
   pub first-unique : (us : List ℕ) → First s c bs vs → First s c bs us → us ≡ vs
   first-unique us f g =
       elim (cases-list us vs) [
-        inl e ↦ e
-      | inr ne ↦ absurd (parted-once us (f .earliest us (g .choice) ne) (g .earliest vs (f .choice) (λ e. ne (sym e))))
+        | inl e ↦ e
+        | inr ne ↦ absurd (parted-once us (f .earliest us (g .choice) ne) (g .earliest vs (f .choice) (λ e. ne (sym e))))
       ]
 
   pub first-head : First s c bs vs → (more : List (List ℕ)) × (choices s c bs ≡ vs ∷ more)
   first-head f =
       elim (empty-or (choices s c bs)) [
-        inl e ↦ absurd (empty-none s c bs e vs (f .choice))
-      | inr m ↦ (m .1, m .2 ∙ ap (λ x. x ∷ m .1) (first-unique (m .0) f (head-first s c bs (m .0) (m .1) (m .2))))
+        | inl e ↦ absurd (empty-none s c bs e vs (f .choice))
+        | inr m ↦ (m .1, m .2 ∙ ap (λ x. x ∷ m .1) (first-unique (m .0) f (head-first s c bs (m .0) (m .1) (m .2))))
       ]

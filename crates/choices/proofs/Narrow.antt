@@ -79,8 +79,8 @@ narrowed-none bs k l = absurd (omega arith)
 pub narrowed-more : (bs : List Copies) (i v : ℕ) → i < length bs → Narrowed bs i → Narrowed (set bs i (v ∷ [])) (i + 1)
 narrowed-more bs i v l h k m =
     elim (cases-eq k i) [
-      inl e ↦ rw e (rw (getD-set-same bs i (v ∷ []) [] l) refl)
-    | inr ne ↦ rw (getD-set-other bs i k (v ∷ []) [] ne) (h k (omega arith))
+      | inl e ↦ rw e (rw (getD-set-same bs i (v ∷ []) [] l) refl)
+      | inr ne ↦ rw (getD-set-other bs i k (v ∷ []) [] ne) (h k (omega arith))
     ]
 
 -- the same nodes from other lists that have them
@@ -99,8 +99,8 @@ pub choice-narrow : (s : Site) (c : ℕ) (bs : List Copies) (vs : List ℕ) (i :
 choice-narrow s c bs vs i l h =
     choice-lists s c bs (set bs i (getD vs i 0 ∷ [])) vs (length-set bs i (getD vs i 0 ∷ []))
     (λ k m. elim (cases-eq k i) [
-      inl e ↦ rw (e, getD-set-same bs i (getD vs i 0 ∷ []) [] l) (or-left (eqb (getD vs i 0) (getD vs i 0)) _ (eq-eqb (getD vs i 0) (getD vs i 0) refl))
-    | inr ne ↦ rw (getD-set-other bs i k (getD vs i 0 ∷ []) [] ne) (h .listed k (rw (length-set bs i (getD vs i 0 ∷ [])) at m))
+      | inl e ↦ rw (e, getD-set-same bs i (getD vs i 0 ∷ []) [] l) (or-left (eqb (getD vs i 0) (getD vs i 0)) _ (eq-eqb (getD vs i 0) (getD vs i 0) refl))
+      | inr ne ↦ rw (getD-set-other bs i k (getD vs i 0 ∷ []) [] ne) (h .listed k (rw (length-set bs i (getD vs i 0 ∷ [])) at m))
     ]) h
 
 pub choice-widen : (s : Site) (c : ℕ) (bs : List Copies) (vs : List ℕ) (i v : ℕ) → i < length bs → has v (getD bs i []) ≡ true
@@ -108,16 +108,16 @@ pub choice-widen : (s : Site) (c : ℕ) (bs : List Copies) (vs : List ℕ) (i v 
 choice-widen s c bs vs i v l t h =
     choice-lists s c (set bs i (v ∷ [])) bs vs (sym (length-set bs i (v ∷ [])))
     (λ k m.
-      let g = h .listed k (rw (length-set bs i (v ∷ [])) m) in
-      elim (cases-eq k i) [
-        inl e ↦
+    let g = h .listed k (rw (length-set bs i (v ∷ [])) m) in
+    elim (cases-eq k i) [
+      | inl e ↦
           let g′ : has (getD vs i 0) (v ∷ []) ≡ true = rw (e, getD-set-same bs i (v ∷ []) [] l) at g in
           elim (or-cases (eqb (getD vs i 0) v) false g′) [
-            inl q ↦ rw (e, eqb-true (getD vs i 0) v q) t
-          | inr q ↦ absurd (both-ways false refl q)
+            | inl q ↦ rw (e, eqb-true (getD vs i 0) v q) t
+            | inr q ↦ absurd (both-ways false refl q)
           ]
       | inr ne ↦ rw (getD-set-other bs i k (v ∷ []) [] ne) at g
-      ]) h
+    ]) h
 
 module _ (s : Site) (c : ℕ) (bs : List Copies) (i : ℕ) (l : i < length bs) (h : Narrowed bs i) where
   -- the choices by the node of the first list that is not narrowed yet
@@ -131,7 +131,7 @@ module _ (s : Site) (c : ℕ) (bs : List Copies) (i : ℕ) (l : i < length bs) (
       let f : ℕ → List (List ℕ) = λ v. choices s c (set bs i (v ∷ [])) in
       let r = joined-from f (getD bs i []) j m (λ k n. none-empty s c (narrow bs i k) (before k n)) in
       sym (ap firstOf (choices-split ∙ r .1)
-        ∙ first-append (choices s c (narrow bs i j)) (r .0) (λ e. empty-none s c (narrow bs i j) e us u))
+      ∙ first-append (choices s c (narrow bs i j)) (r .0) (λ e. empty-none s c (narrow bs i j) e us u))
 
   -- no choice with any node of list i: none at all
   pub narrow-stuck : ((k : ℕ) → k < length (getD bs i []) → (vs : List ℕ) → Choice s c (narrow bs i k) vs → ⊥)
@@ -139,8 +139,8 @@ module _ (s : Site) (c : ℕ) (bs : List Copies) (i : ℕ) (l : i < length bs) (
   narrow-stuck none =
       empty-none s c bs
       (choices-split
-        ∙ joined-empty (λ v. choices s c (set bs i (v ∷ []))) (getD bs i [])
-          (λ k n. none-empty s c (narrow bs i k) (none k n)))
+      ∙ joined-empty (λ v. choices s c (set bs i (v ∷ []))) (getD bs i [])
+      (λ k n. none-empty s c (narrow bs i k) (none k n)))
 
 module _ (s : Site) (c : ℕ) (bs : List Copies) (h : Narrowed bs (length bs)) where
   -- the end: every list has one node, and a choice is those nodes

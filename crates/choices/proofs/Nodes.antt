@@ -30,8 +30,8 @@ pub has-place : (v : ℕ) (vs : List ℕ) → has v vs ≡ true → (i : ℕ) ×
 has-place v [] h = absurd (both-ways false refl h)
 has-place v (w ∷ ws) h =
     elim (or-cases (eqb v w) _ h) [
-      inl t ↦ (0, omega arith, sym (eqb-true v w t))
-    | inr t ↦ let p = has-place v ws t in (suc (p .0), omega (arith, p .1), p .2)
+      | inl t ↦ (0, omega arith, sym (eqb-true v w t))
+      | inr t ↦ let p = has-place v ws t in (suc (p .0), omega (arith, p .1), p .2)
     ]
 
 pub has-at : (vs : List ℕ) (i : ℕ) → i < length vs → has (getD vs i 0) vs ≡ true
@@ -68,10 +68,10 @@ pub apart-from-differ : (vs : List ℕ) → ((i j : ℕ) → i < length vs → j
 apart-from-differ [] h = refl
 apart-from-differ (v ∷ vs) h =
     let miss : has v vs ≡ false =
-      elim (cases-bool (has v vs)) [
-        inl t ↦ let p = has-place v vs t in let z : _≡_ {A = ℕ} 0 (suc (p .0)) = h 0 (suc (p .0)) (omega arith) (omega (arith, p .1)) (sym (p .2)) in absurd (omega arith)
+    elim (cases-bool (has v vs)) [
+      | inl t ↦ let p = has-place v vs t in let z : _≡_ {A = ℕ} 0 (suc (p .0)) = h 0 (suc (p .0)) (omega arith) (omega (arith, p .1)) (sym (p .2)) in absurd (omega arith)
       | inr t ↦ t
-      ] in
+    ] in
     and-from (not (has v vs)) _ (not-from-false (has v vs) miss)
     (apart-from-differ vs (λ i j l m e. let z : suc i ≡ suc j = h (suc i) (suc j) (omega arith) (omega arith) e in omega arith))
 
@@ -91,6 +91,6 @@ pub has-counting : (v a n : ℕ) → a ≤ v → v < a + n → has v (counting a
 has-counting v a zero l m = absurd (omega arith)
 has-counting v a (suc n) l m =
     elim (cases-eq v a) [
-      inl e ↦ or-left (eqb v a) _ (eq-eqb v a e)
-    | inr e ↦ or-right (eqb v a) _ (has-counting v (a + 1) n (omega arith) (omega arith))
+      | inl e ↦ or-left (eqb v a) _ (eq-eqb v a e)
+      | inr e ↦ or-right (eqb v a) _ (has-counting v (a + 1) n (omega arith) (omega arith))
     ]

@@ -40,8 +40,8 @@ rack-below s h v l = rack-within s v (h .racked) l
 pub has-round : (s : Site) (start v : ℕ) → v < length s → has v (round s start) ≡ true
 has-round s start v l =
     elim (cases-lt v start) [
-      inl m ↦ has-append-right v (counting start (length s - start)) (counting 0 start) (has-counting v 0 start (omega arith) (omega arith))
-    | inr m ↦ has-append-left v (counting start (length s - start)) (counting 0 start) (has-counting v start (length s - start) m (omega arith))
+      | inl m ↦ has-append-right v (counting start (length s - start)) (counting 0 start) (has-counting v 0 start (omega arith) (omega arith))
+      | inr m ↦ has-append-left v (counting start (length s - start)) (counting 0 start) (has-counting v start (length s - start) m (omega arith))
     ]
 
 pub spaced-choice : (s : Site) (c : ℕ) (bs : List Copies) (vs : List ℕ) → Choice s c bs vs → Spaced s c vs
@@ -71,8 +71,8 @@ module _ (s : Site) (c : ℕ) where
       at r l =
           rw (countBy-push (λ w. eqb (rackOf s w) r) taken v)
           (elim (cases-bool (eqb (rackOf s v) r)) [
-            inl e ↦ let m : countBy (λ w. eqb (rackOf s w) r) taken < c = rw (eqb-true (rackOf s v) r e) at l in rw e (omega arith)
-          | inr e ↦ rw e (omega (arith, h .spread r))
+            | inl e ↦ let m : countBy (λ w. eqb (rackOf s w) r) taken < c = rw (eqb-true (rackOf s v) r e) at l in rw e (omega arith)
+            | inr e ↦ rw e (omega (arith, h .spread r))
           ])
 
   pub parity-spaced : (left : ℕ) (taken vs : List ℕ) → Spaced s c taken → Spaced s c (taken ++ parity s c left taken vs)
@@ -80,9 +80,9 @@ module _ (s : Site) (c : ℕ) where
   parity-spaced (suc left) taken [] h = rw append-nil h
   parity-spaced (suc left) taken (v ∷ vs) h =
       elim (cases-bool (free s c taken v)) [
-        inl t ↦
-          rw t (rw append-assoc at (parity-spaced left (taken ++ v ∷ []) vs (spaced-push taken v h t)))
-      | inr t ↦ rw t (parity-spaced (suc left) taken vs h)
+        | inl t ↦
+            rw t (rw append-assoc at (parity-spaced left (taken ++ v ∷ []) vs (spaced-push taken v h t)))
+        | inr t ↦ rw t (parity-spaced (suc left) taken vs h)
       ]
 
   parity-most : (left : ℕ) (taken vs : List ℕ) → length (parity s c left taken vs) ≤ left
@@ -90,8 +90,8 @@ module _ (s : Site) (c : ℕ) where
   parity-most (suc left) taken [] = omega arith
   parity-most (suc left) taken (v ∷ vs) =
       elim (cases-bool (free s c taken v)) [
-        inl t ↦ rw t (let i = parity-most left (taken ++ v ∷ []) vs in omega arith)
-      | inr t ↦ rw t (parity-most (suc left) taken vs)
+        | inl t ↦ rw t (let i = parity-most left (taken ++ v ∷ []) vs in omega arith)
+        | inr t ↦ rw t (parity-most (suc left) taken vs)
       ]
 
   -- the visit takes as many as it may, or each yes node that it came to is in the plan or in a rack that the plan fills
@@ -102,39 +102,39 @@ module _ (s : Site) (c : ℕ) where
   parity-rest (suc left) taken [] = inr (λ v h _. absurd (both-ways false refl h))
   parity-rest (suc left) taken (v ∷ vs) =
       elim (cases-bool (free s c taken v)) [
-        inl t ↦
-          rw t
-          (elim (parity-rest left (taken ++ v ∷ []) vs) [
-            inl e ↦ inl (ap suc e)
-          | inr g ↦ inr (λ u h k.
-              let X : List ℕ = parity s c left (taken ++ v ∷ []) vs in
-              elim (or-cases (eqb u v) _ h) [
-                inl q ↦ inl (has-append-right u taken (v ∷ X) (or-left (eqb u v) _ q))
-              | inr q ↦ rw append-assoc at (g u q k)
-              ])
-          ])
-      | inr t ↦
-          rw t
-          (elim (parity-rest (suc left) taken vs) [
-            inl e ↦ inl e
-          | inr g ↦ inr (λ u h k.
-              elim (or-cases (eqb u v) _ h) [
-                inl q ↦ rw (eqb-true u v q) (missed (parity s c (suc left) taken vs) (rw (eqb-true u v q) at k) t)
-              | inr q ↦ g u q k
-              ])
-          ])
+        | inl t ↦
+            rw t
+            (elim (parity-rest left (taken ++ v ∷ []) vs) [
+              | inl e ↦ inl (ap suc e)
+              | inr g ↦ inr (λ u h k.
+                  let X : List ℕ = parity s c left (taken ++ v ∷ []) vs in
+                  elim (or-cases (eqb u v) _ h) [
+                    | inl q ↦ inl (has-append-right u taken (v ∷ X) (or-left (eqb u v) _ q))
+                    | inr q ↦ rw append-assoc at (g u q k)
+                  ])
+            ])
+        | inr t ↦
+            rw t
+            (elim (parity-rest (suc left) taken vs) [
+              | inl e ↦ inl e
+              | inr g ↦ inr (λ u h k.
+                  elim (or-cases (eqb u v) _ h) [
+                    | inl q ↦ rw (eqb-true u v q) (missed (parity s c (suc left) taken vs) (rw (eqb-true u v q) at k) t)
+                    | inr q ↦ g u q k
+                  ])
+            ])
       ]
     where
       missed : (X : List ℕ) → keeps s v ≡ true → free s c taken v ≡ false → (has v (taken ++ X) ≡ true) ⊎ (c ≤ beside s v (taken ++ X))
       missed X k t =
           elim (and-cases (keeps s v) _ t) [
-            inl z ↦ absurd (both-ways (keeps s v) z k)
-          | inr z ↦
-              elim (and-cases (not (has v taken)) _ z) [
-                inl y ↦ inl (has-append-left v taken X (not-false (has v taken) y))
-              | inr y ↦
-                  inr (rw (countBy-append (λ w. eqb (rackOf s w) (rackOf s v)) taken X) (omega (arith, ltb-false (beside s v taken) c y)))
-              ]
+            | inl z ↦ absurd (both-ways (keeps s v) z k)
+            | inr z ↦
+                elim (and-cases (not (has v taken)) _ z) [
+                  | inl y ↦ inl (has-append-left v taken X (not-false (has v taken) y))
+                  | inr y ↦
+                      inr (rw (countBy-append (λ w. eqb (rackOf s w) (rackOf s v)) taken X) (omega (arith, ltb-false (beside s v taken) c y)))
+                ]
           ]
 
   -- nodes beside which no yes node of the site is free are as many as there is space for
@@ -150,13 +150,13 @@ module _ (s : Site) (c : ℕ) where
   parity-full n taken start limits room′ l h =
       let X : List ℕ = parity s c (n - length taken) taken (round s start) in
       elim (parity-rest (n - length taken) taken (round s start)) [
-        inl e ↦ e
-      | inr g ↦
-          let all : space s c ≤ length (taken ++ X) =
+        | inl e ↦ e
+        | inr g ↦
+            let all : space s c ≤ length (taken ++ X) =
             spaced-full (taken ++ X) limits (parity-spaced (n - length taken) taken (round s start) h)
             (λ v m k. g v (has-round s start v m) k) in
-          let most : length X ≤ n - length taken = parity-most (n - length taken) taken (round s start) in
-          omega (arith, length-append taken X)
+            let most : length X ≤ n - length taken = parity-most (n - length taken) taken (round s start) in
+            omega (arith, length-append taken X)
       ]
 
 module _ (s : Site) (n k c : ℕ) (bs : List Copies) where

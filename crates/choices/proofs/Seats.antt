@@ -43,16 +43,16 @@ kept-picks q (b ∷ bs) p h =
     let g : ℕ → List (List ℕ) = λ v. map (λ vs. v ∷ vs) (kept-by (λ vs. p (v ∷ vs)) (picks bs)) in
     kept-by-joined p (λ v. map (λ vs. v ∷ vs) (picks (map (kept-by q) bs))) (kept-by q b)
     ∙ joined-same _ g
-      (λ v.
-        kept-by-map p (λ vs. v ∷ vs) (picks (map (kept-by q) bs))
-        ∙ ap (map (λ vs. v ∷ vs)) (kept-picks q bs (λ vs. p (v ∷ vs)) (λ vs t. and-parts (q v) _ (h (v ∷ vs) t) .1)))
-      (kept-by q b)
+    (λ v.
+    kept-by-map p (λ vs. v ∷ vs) (picks (map (kept-by q) bs))
+    ∙ ap (map (λ vs. v ∷ vs)) (kept-picks q bs (λ vs. p (v ∷ vs)) (λ vs t. and-parts (q v) _ (h (v ∷ vs) t) .1)))
+    (kept-by q b)
     ∙ joined-kept q g
-      (λ v t. ap (map (λ vs. v ∷ vs))
-        (kept-by-none (λ vs. p (v ∷ vs))
-          (λ vs. elim (cases-bool (p (v ∷ vs))) [ inl u ↦ absurd (both-ways (q v) t (and-parts (q v) _ (h (v ∷ vs) u) .0)) | inr u ↦ u ])
-          (picks bs)))
-      b
+    (λ v t. ap (map (λ vs. v ∷ vs))
+    (kept-by-none (λ vs. p (v ∷ vs))
+    (λ vs. elim (cases-bool (p (v ∷ vs))) [ inl u ↦ absurd (both-ways (q v) t (and-parts (q v) _ (h (v ∷ vs) u) .0)) | inr u ↦ u ])
+    (picks bs)))
+    b
     ∙ joined-same g _ (λ v. sym (kept-by-map p (λ vs. v ∷ vs) (picks bs))) b
     ∙ sym (kept-by-joined p (λ v. map (λ vs. v ∷ vs) (picks bs)) b)
 
@@ -61,10 +61,10 @@ seat-has q [] v h = refl
 seat-has q (w ∷ b) v h =
     let i = seat-has q b v h in
     elim (cases-bool (q w)) [
-      inl t ↦ rw t (ap (λ x. eqb v w || x) i)
-    | inr t ↦
-        let ne : eqb v w ≡ false = ne-eqb v w (λ e. both-ways (q w) t (rw e at h)) in
-        rw (t, ne) i
+      | inl t ↦ rw t (ap (λ x. eqb v w || x) i)
+      | inr t ↦
+          let ne : eqb v w ≡ false = ne-eqb v w (λ e. both-ways (q w) t (rw e at h)) in
+          rw (t, ne) i
     ]
 
 any-same : (n : ℕ) (p q : ℕ → Bool) → ((k : ℕ) → k < n → p k ≡ q k) → anyTo n p ≡ anyTo n q
@@ -88,7 +88,7 @@ module _ (s : Site) (c : ℕ) (bs : List Copies) where
   seat-any w v t =
       ap (λ n. anyTo n (λ i. member w i && has v (getD (map (kept-by (keeps s)) bs) i []))) (length-map bs (kept-by (keeps s)))
       ∙ any-same (length bs) _ _
-        (λ k l. ap (λ x. member w k && x) (ap (has v) (getD-map (kept-by (keeps s)) bs k [] [] l) ∙ seat-has (keeps s) (getD bs k []) v t))
+      (λ k l. ap (λ x. member w k && x) (ap (has v) (getD-map (kept-by (keeps s)) bs k [] [] l) ∙ seat-has (keeps s) (getD bs k []) v t))
 
   pub seat-reach : (w : ℕ) → reach s c (map (kept-by (keeps s)) bs) w ≡ reach s c bs w
   unfolding room
@@ -99,8 +99,8 @@ module _ (s : Site) (c : ℕ) (bs : List Copies) where
           ≡ (anyTo (length bs) (λ i. member w i && has v (getD bs i [])) && (keeps s v && eqb (rackOf s v) r))
       at r v =
           elim (cases-bool (keeps s v)) [
-            inl t ↦ ap (λ x. x && (keeps s v && eqb (rackOf s v) r)) (seat-any w v t)
-          | inr t ↦ let n = and-left (keeps s v) (eqb (rackOf s v) r) t in and-right _ _ n ∙ sym (and-right _ _ n)
+            | inl t ↦ ap (λ x. x && (keeps s v && eqb (rackOf s v) r)) (seat-any w v t)
+            | inr t ↦ let n = and-left (keeps s v) (eqb (rackOf s v) r) t in and-right _ _ n ∙ sym (and-right _ _ n)
           ]
 
   pub seat-tight : (w : ℕ) → Tight s c bs w → Tight s c (map (kept-by (keeps s)) bs) w

@@ -37,6 +37,7 @@ count-ones (suc n) w =
   where
     half : (k : ℕ) → member w (suc k) ≡ member (w / 2) k
     half k = ap (λ x. eqb (x % 2) 1) (sym (rw one-add at (shr-shr w 1 k)))
+
     low : cond (member w 0) 1 0 ≤ w % 2
     low = rw div-one (let l : w % 2 < 2 = mod-below w 2 (omega arith) in grind (arith, tells))
 
@@ -50,17 +51,17 @@ parts a b (v ∷ p) =
     let z = sumBy-cons (λ v. cond (b v) 1 0) v p in
     rw (x, y, z)
     (elim (cases-bool (a v)) [
-      inl t ↦ rw t (omega arith)
-    | inr t ↦ elim (cases-bool (b v)) [ inl u ↦ rw (t, u) (omega arith) | inr u ↦ rw (t, u) (omega arith) ]
+      | inl t ↦ rw t (omega arith)
+      | inr t ↦ elim (cases-bool (b v)) [ inl u ↦ rw (t, u) (omega arith) | inr u ↦ rw (t, u) (omega arith) ]
     ])
 
 pub losses-bounded : (s : Site) (c : ℕ) (p lost : List ℕ) (w : ℕ) → Limits s → apart p ≡ true → ((v : ℕ) → has v p ≡ true → v < length s)
     → ((r : ℕ) → countBy (λ v. eqb (rackOf s v) r) p ≤ c) → length p ≤ stand s p lost w + distinct s lost + c * ones w
 losses-bounded s c p lost w limits differ below spread =
     let nodes : countBy (λ v. has v lost) p ≤ 1 * countTo (length s) (λ v. has v lost) =
-      lost-groups (length s) 1 (λ v. v) (λ v. has v lost) p below (apart-held p differ) in
+    lost-groups (length s) 1 (λ v. v) (λ v. has v lost) p below (apart-held p differ) in
     let racks : countBy (λ v. member w (rackOf s v)) p ≤ c * countTo 32 (member w) =
-      lost-groups 32 c (rackOf s) (member w) p (λ v t. rack-below s limits v (below v t)) spread in
+    lost-groups 32 c (rackOf s) (member w) p (λ v t. rack-below s limits v (below v t)) spread in
     omega (arith, parts (λ v. has v lost) (λ v. member w (rackOf s v)) p, mul-le-mul-left c (count-ones 32 w))
 
 pub plan-survives : (s : Site) (n k c : ℕ) (bs : List Copies) (start : ℕ) (lost : List ℕ) (w : ℕ) → Limits s → n ≤ space s c → k ≤ n → length bs ≡ k

@@ -13,22 +13,22 @@ use Rattle.choices.specs.Plan.{firstOf}
 -- the list is empty exactly where there is no choice
 abbrev pub Empty-exact : Type 0
 Empty-exact = (s : Site) (c : ℕ) (bs : List Copies)
-  → (choices s c bs ≡ [] → (vs : List ℕ) → Choice s c bs vs → ⊥) × (((vs : List ℕ) → Choice s c bs vs → ⊥) → choices s c bs ≡ [])
+    → (choices s c bs ≡ [] → (vs : List ℕ) → Choice s c bs vs → ⊥) × (((vs : List ℕ) → Choice s c bs vs → ⊥) → choices s c bs ≡ [])
 
 -- where no list names a node twice, there is at most one first choice
 abbrev pub First-unique : Type 0
 First-unique = (s : Site) (c : ℕ) (bs : List Copies) (vs us : List ℕ)
-  → ((b : List ℕ) → Has bs b → apart b ≡ true) → First s c bs vs → First s c bs us → us ≡ vs
+    → ((b : List ℕ) → Has bs b → apart b ≡ true) → First s c bs vs → First s c bs us → us ≡ vs
 
 -- and it is the head of the list
 abbrev pub First-head : Type 0
 First-head = (s : Site) (c : ℕ) (bs : List Copies) (vs : List ℕ)
-  → ((b : List ℕ) → Has bs b → apart b ≡ true) → First s c bs vs → (more : List (List ℕ)) × (choices s c bs ≡ vs ∷ more)
+    → ((b : List ℕ) → Has bs b → apart b ≡ true) → First s c bs vs → (more : List (List ℕ)) × (choices s c bs ≡ vs ∷ more)
 
 -- no other node than the yes nodes counts
 abbrev pub Yes-enough : Type 0
 Yes-enough = (s : Site) (c : ℕ) (bs : List Copies)
-  → (choices s c (map (kept-by (keeps s)) bs) ≡ choices s c bs) × ((w : ℕ) → reach s c (map (kept-by (keeps s)) bs) w ≡ reach s c bs w)
+    → (choices s c (map (kept-by (keeps s)) bs) ≡ choices s c bs) × ((w : ℕ) → reach s c (map (kept-by (keeps s)) bs) w ≡ reach s c bs w)
 
 -- How the first choice is found with no list of choices at hand: block after block, the list is narrowed to its earliest node that
 -- leaves a choice for all.
@@ -51,8 +51,8 @@ pub record Narrowing (s : Site) (c : ℕ) (bs ds : List Copies) (i : ℕ) (vs : 
 -- a step keeps the first choice
 abbrev pub Narrow-keeps : Type 0
 Narrow-keeps = (s : Site) (c : ℕ) (bs : List Copies) (i j : ℕ) → i < length bs → Narrowed bs i → j < length (getD bs i [])
-  → ((k : ℕ) → k < j → (vs : List ℕ) → Choice s c (narrow bs i k) vs → ⊥) → (us : List ℕ) → Choice s c (narrow bs i j) us
-  → firstOf (choices s c (narrow bs i j)) ≡ firstOf (choices s c bs)
+    → ((k : ℕ) → k < j → (vs : List ℕ) → Choice s c (narrow bs i k) vs → ⊥) → (us : List ℕ) → Choice s c (narrow bs i j) us
+    → firstOf (choices s c (narrow bs i j)) ≡ firstOf (choices s c bs)
 
 -- and once every list has one node, a choice is the first
 abbrev pub Narrow-ends : Type 0

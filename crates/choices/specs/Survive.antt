@@ -23,12 +23,12 @@ pub record Spaced (s : Site) (c : ℕ) (p : List ℕ) : Type 0 where
 -- where the site has space for n blocks, the parity nodes never run out, whichever choice was kept and wherever the visit starts
 abbrev pub Parity-full : Type 0
 Parity-full = (s : Site) (n k c : ℕ) (bs : List Copies) (vs : List ℕ) (start : ℕ) → Limits s → n ≤ space s c → k ≤ n → length bs ≡ k → Choice s c bs vs
-  → (length (parity s c (n - k) vs (round s start)) ≡ n - k) × Spaced s c (vs ++ parity s c (n - k) vs (round s start))
+    → (length (parity s c (n - k) vs (round s start)) ≡ n - k) × Spaced s c (vs ++ parity s c (n - k) vs (round s start))
 
 -- so a stripe that has a choice has a plan of n nodes
 abbrev pub Planned-full : Type 0
 Planned-full = (s : Site) (n k c : ℕ) (bs : List Copies) (start : ℕ) → Limits s → n ≤ space s c → k ≤ n → length bs ≡ k → (choices s c bs ≡ [] → ⊥)
-  → (length (planned s n k c bs start) ≡ n) × Spaced s c (planned s n k c bs start)
+    → (length (planned s n k c bs start) ≡ n) × Spaced s c (planned s n k c bs start)
 
 -- how many planned blocks stand when some nodes, and the racks of w, are lost
 abbrev pub stand : Site → List ℕ → List ℕ → ℕ → ℕ
@@ -41,9 +41,9 @@ distinct s lost = countTo (length s) (λ v. has v lost)
 -- with each lost node goes at most one planned block, and with each lost rack at most c
 abbrev pub Losses-bounded : Type 0
 Losses-bounded = (s : Site) (c : ℕ) (p lost : List ℕ) (w : ℕ) → Limits s → apart p ≡ true → ((v : ℕ) → has v p ≡ true → v < length s)
-  → ((r : ℕ) → countBy (λ v. eqb (rackOf s v) r) p ≤ c) → length p ≤ stand s p lost w + distinct s lost + c * ones w
+    → ((r : ℕ) → countBy (λ v. eqb (rackOf s v) r) p ≤ c) → length p ≤ stand s p lost w + distinct s lost + c * ones w
 
 -- so k blocks of a plan stand while the losses are within n − k
 abbrev pub Plan-survives : Type 0
 Plan-survives = (s : Site) (n k c : ℕ) (bs : List Copies) (start : ℕ) (lost : List ℕ) (w : ℕ) → Limits s → n ≤ space s c → k ≤ n → length bs ≡ k
-  → (choices s c bs ≡ [] → ⊥) → distinct s lost + c * ones w ≤ n - k → k ≤ stand s (planned s n k c bs start) lost w
+    → (choices s c bs ≡ [] → ⊥) → distinct s lost + c * ones w ≤ n - k → k ≤ stand s (planned s n k c bs start) lost w
