@@ -6,3 +6,11 @@ pub mod Sets
 pub mod Steps
 pub mod Find
 pub mod Sites
+pub mod Nodes
+pub mod Counts
+pub mod Exact
+pub mod Head
+pub mod Narrow
+pub mod Seats
+pub mod Parity
+pub mod Survive

@@ -5,3 +5,5 @@ pub mod Tight
 pub mod Plan
 pub mod Search
 pub mod Hall
+pub mod Order
+pub mod Survive
