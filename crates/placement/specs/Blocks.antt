@@ -11,3 +11,7 @@ numbers vs = map (λ v. v .0) vs
 
 abbrev pub copiesOf : Block → Copies
 copiesOf b = numbers (take (b .len) (b .nodes))
+
+-- a block's number and its list: all that it says
+abbrev pub told : Block → ℕ × Copies
+told b = (b .number, copiesOf b)
