@@ -25,10 +25,10 @@ unfolding unseen
 unseen-le n w w′ sub =
     count-le n (λ k. not (member w′ k)) (λ k. not (member w k))
     (λ k _ t.
-      elim (cases-bool (member w k)) [
-        inl m ↦ absurd (both-ways _ (not-true _ t) (sub k m))
+    elim (cases-bool (member w k)) [
+      | inl m ↦ absurd (both-ways _ (not-true _ t) (sub k m))
       | inr m ↦ not-from-false _ m
-      ])
+    ])
 
 -- x is put at v
 unfoldable put : (ℕ → ℕ) → ℕ → ℕ → ℕ → ℕ
@@ -44,30 +44,30 @@ module _ (n c : ℕ) (rack a : ℕ → ℕ) (x v : ℕ) where
       let p : ℕ → Bool = λ k. but x k && eqb (a k) v in
       let d = any-decides n (λ k. but x k && eqb (a k) v) in
       elim (cases-bool (anyTo n (λ k. but x k && eqb (a k) v))) [
-        inl t ↦ let h = d .0 t in let h′ = and-parts (but x (h .0)) _ (h .2) in inl (h .0, h .1, but-no x (h .0) (h′ .0), eqb-true _ _ (h′ .1))
-      | inr t ↦ inr (λ k l ne e. both-ways _ t (d .1 (k, l, and-from _ _ (but-yes x k ne) (eq-eqb _ _ e))))
+        | inl t ↦ let h = d .0 t in let h′ = and-parts (but x (h .0)) _ (h .2) in inl (h .0, h .1, but-no x (h .0) (h′ .0), eqb-true _ _ (h′ .1))
+        | inr t ↦ inr (λ k l ne e. both-ways _ t (d .1 (k, l, and-from _ _ (but-yes x k ne) (eq-eqb _ _ e))))
       ]
 
   open-or-shut : Open n c rack a x v ⊎ Shut n c rack a x v
   open-or-shut =
       elim held-or-free [
-        inl h ↦ inr (inl h)
-      | inr f ↦ elim (cases-lt (inRack n rack a x (rack v)) c) [ inl l ↦ inl (f, l) | inr l ↦ inr (inr (f, l)) ]
+        | inl h ↦ inr (inl h)
+        | inr f ↦ elim (cases-lt (inRack n rack a x (rack v)) c) [ inl l ↦ inl (f, l) | inr l ↦ inr (inr (f, l)) ]
       ]
 
   way-or-not : (y : ℕ) → y < n → (y ≡ x → ⊥) → Way n rack a x y v ⊎ (Way n rack a x y v → ⊥)
   way-or-not y l ne =
       elim (cases-eq (a y) v) [
-        inl e ↦ inl (inl e)
-      | inr e ↦
-          elim held-or-free [
-            inl h ↦ inr (λ w. elim w [ inl g ↦ e g | inr g ↦ g .0 (h .0) (h .1) (h .2) (h .3) ])
-          | inr f ↦
-              elim (cases-eq (rack (a y)) (rack v)) [
-                inl g ↦ inl (inr (f, g))
-              | inr g ↦ inr (λ w. elim w [ inl k ↦ e k | inr k ↦ g (k .1) ])
-              ]
-          ]
+        | inl e ↦ inl (inl e)
+        | inr e ↦
+            elim held-or-free [
+              | inl h ↦ inr (λ w. elim w [ inl g ↦ e g | inr g ↦ g .0 (h .0) (h .1) (h .2) (h .3) ])
+              | inr f ↦
+                  elim (cases-eq (rack (a y)) (rack v)) [
+                    | inl g ↦ inl (inr (f, g))
+                    | inr g ↦ inr (λ w. elim w [ inl k ↦ e k | inr k ↦ g (k .1) ])
+                  ]
+            ]
       ]
 
 module _ (n N R c : ℕ) (rack : ℕ → ℕ) (U : ℕ → ℕ → Bool) where
@@ -88,76 +88,79 @@ module _ (n N R c : ℕ) (rack : ℕ → ℕ) (U : ℕ → ℕ → Bool) where
       give : (w y : ℕ) → y < n → Trying n N R c rack U a x v w₁ w y → Some-complete ⊎ ((w′ : ℕ) × Trying n N R c rack U a x v w₁ w′ (y + 1))
       give w y l t =
           elim (cases-eq y x) [
-            inl e ↦ inr (w, steps.trying-skip n N R c rack U a x v w₁ w y t (inl e))
-          | inr ne ↦
-              elim (cases-bool (member w y)) [
-                inl seen ↦ inr (w, steps.trying-skip n N R c rack U a x v w₁ w y t (inr (inl seen)))
-              | inr fresh ↦
-                  elim (way-or-not n c rack a x v y l ne) [
-                    inr none ↦ inr (w, steps.trying-skip n N R c rack U a x v w₁ w y t (inr (inr none)))
-                  | inl way ↦
-                      let next : Ready n N R c rack U (put a x v) y (bitOr w (2 ^ y)) =
-                        steps.ready-next n N R c rack U a x v w₁ ready₁ u a (put a x v) refl (put-moved a x v) w y (bitOr w (2 ^ y)) l ne way refl in
-                      let fewer : unseen n (bitOr w (2 ^ y)) < m =
-                        omega (arith, steps.marks n w y (bitOr w (2 ^ y)) l refl fresh, unseen-le n w₀ w (λ k i. t .grown .more k (grown k i))) in
-                      elim (place (put a x v) y (bitOr w (2 ^ y)) next fewer) [
-                        inl s ↦ inl s
-                      | inr f ↦
-                          inr (f .0, steps.retried n N R c rack U a x v w₁ ready₁ u a (put a x v) refl (put-moved a x v) w y (bitOr w (2 ^ y)) (f .0)
-                            t l ne fresh way refl (f .1))
+            | inl e ↦ inr (w, steps.trying-skip n N R c rack U a x v w₁ w y t (inl e))
+            | inr ne ↦
+                elim (cases-bool (member w y)) [
+                  | inl seen ↦ inr (w, steps.trying-skip n N R c rack U a x v w₁ w y t (inr (inl seen)))
+                  | inr fresh ↦
+                      elim (way-or-not n c rack a x v y l ne) [
+                        | inr none ↦ inr (w, steps.trying-skip n N R c rack U a x v w₁ w y t (inr (inr none)))
+                        | inl way ↦
+                            let next : Ready n N R c rack U (put a x v) y (bitOr w (2 ^ y)) =
+                            steps.ready-next n N R c rack U a x v w₁ ready₁ u a (put a x v) refl (put-moved a x v) w y (bitOr w (2 ^ y)) l ne way refl in
+                            let fewer : unseen n (bitOr w (2 ^ y)) < m =
+                            omega (arith, steps.marks n w y (bitOr w (2 ^ y)) l refl fresh, unseen-le n w₀ w (λ k i. t .grown .more k (grown k i))) in
+                            elim (place (put a x v) y (bitOr w (2 ^ y)) next fewer) [
+                              | inl s ↦ inl s
+                              | inr f ↦
+                                  inr (
+                                    f .0,
+                                    steps.retried n N R c rack U a x v w₁ ready₁ u a (put a x v) refl (put-moved a x v) w y (bitOr w (2 ^ y)) (f .0)
+                                        t l ne fresh way refl (f .1),
+                                  )
+                            ]
                       ]
-                  ]
-              ]
+                ]
           ]
 
       gives : (y : ℕ) → y ≤ n → Some-complete ⊎ ((w′ : ℕ) × Trying n N R c rack U a x v w₁ w′ y)
       gives zero l = inr (w₁, steps.trying-none n N R c rack U a x v w₁)
       gives (suc y) l =
           elim (gives y (omega arith)) [
-            inl s ↦ inl s
-          | inr t ↦
-              elim (give (t .0) y (omega arith) (t .1)) [
-                inl s ↦ inl s
-              | inr t′ ↦ inr (t′ .0, subst (λ j. Trying n N R c rack U a x v w₁ (t′ .0) j) (add-one y) (t′ .1))
-              ]
+            | inl s ↦ inl s
+            | inr t ↦
+                elim (give (t .0) y (omega arith) (t .1)) [
+                  | inl s ↦ inl s
+                  | inr t′ ↦ inr (t′ .0, subst (λ j. Trying n N R c rack U a x v w₁ (t′ .0) j) (add-one y) (t′ .1))
+                ]
           ]
 
       -- x takes v, or cannot
       try : Some-complete ⊎ ((w′ : ℕ) × Blocked n N R c rack U a x v w₁ w′)
       try =
           elim (open-or-shut n c rack a x v) [
-            inl o ↦ inl (put a x v, steps.opened n N R c rack U a x v w₁ ready₁ u a (put a x v) refl (put-moved a x v) o)
-          | inr s ↦
-              elim (gives n (omega arith)) [
-                inl h ↦ inl h
-              | inr t ↦ inr (t .0, steps.trying-all n N R c rack U a x v w₁ (t .0) n (t .1) (omega arith) s)
-              ]
+            | inl o ↦ inl (put a x v, steps.opened n N R c rack U a x v w₁ ready₁ u a (put a x v) refl (put-moved a x v) o)
+            | inr s ↦
+                elim (gives n (omega arith)) [
+                  | inl h ↦ inl h
+                  | inr t ↦ inr (t .0, steps.trying-all n N R c rack U a x v w₁ (t .0) n (t .1) (omega arith) s)
+                ]
           ]
 
     tries : (i : ℕ) → Some-complete ⊎ ((w′ : ℕ) × Passing n N R c rack U a x (λ k. k) w₀ w′ i)
     tries zero = inr (w₀, steps.passing-none n N R c rack U a x (λ k. k) w₀)
     tries (suc i) =
         elim (tries i) [
-          inl s ↦ inl s
-        | inr t ↦
-            let on : (w′ : ℕ) → Passing n N R c rack U a x (λ k. k) w₀ w′ (i + 1) → Passing n N R c rack U a x (λ k. k) w₀ w′ (suc i) =
+          | inl s ↦ inl s
+          | inr t ↦
+              let on : (w′ : ℕ) → Passing n N R c rack U a x (λ k. k) w₀ w′ (i + 1) → Passing n N R c rack U a x (λ k. k) w₀ w′ (suc i) =
               λ w′. subst (λ j. Passing n N R c rack U a x (λ k. k) w₀ w′ j) (add-one i) in
-            elim (cases-bool (U x i)) [
-              inr no′ ↦ inr (t .0, on (t .0) (steps.passing-skip n N R c rack U a x (λ k. k) w₀ (t .0) i (t .1) no′))
-            | inl u ↦
-                elim (try i (t .0) (t .1 .grown .more) (steps.ready-same n N R c rack U a x w₀ (t .0) ready a refl (t .1 .grown)) u) [
-                  inl s ↦ inl s
-                | inr b ↦ inr (b .0, on (b .0) (steps.passing-more n N R c rack U a x (λ k. k) w₀ (t .0) (b .0) i (t .1) (b .1)))
-                ]
-            ]
+              elim (cases-bool (U x i)) [
+                | inr no′ ↦ inr (t .0, on (t .0) (steps.passing-skip n N R c rack U a x (λ k. k) w₀ (t .0) i (t .1) no′))
+                | inl u ↦
+                    elim (try i (t .0) (t .1 .grown .more) (steps.ready-same n N R c rack U a x w₀ (t .0) ready a refl (t .1 .grown)) u) [
+                      | inl s ↦ inl s
+                      | inr b ↦ inr (b .0, on (b .0) (steps.passing-more n N R c rack U a x (λ k. k) w₀ (t .0) (b .0) i (t .1) (b .1)))
+                    ]
+              ]
         ]
 
     each : Searched a x w₀
     each =
         elim (tries N) [
-          inl s ↦ inl s
-        | inr t ↦
-            inr (t .0, steps.passing-all n N R c rack U a x (λ k. k) w₀ (t .0) N (t .1) (λ v u. (v, ready .sized .node x v u, refl)))
+          | inl s ↦ inl s
+          | inr t ↦
+              inr (t .0, steps.passing-all n N R c rack U a x (λ k. k) w₀ (t .0) N (t .1) (λ v u. (v, ready .sized .node x v u, refl)))
         ]
 
   searches : (m : ℕ) → Searches m
@@ -173,34 +176,39 @@ module _ (n N R c : ℕ) (rack : ℕ → ℕ) (U : ℕ → ℕ → Bool) where
       let m : ℕ = bitOr 0 (2 ^ x) in
       let r : Ready n N R c rack U a x (bitOr 0 (2 ^ x)) = steps.ready-first n N R c rack U a x (bitOr 0 (2 ^ x)) s p refl in
       elim (searches (suc (unseen n (bitOr 0 (2 ^ x)))) a x (bitOr 0 (2 ^ x)) r (omega arith)) [
-        inl h ↦ inl h
-      | inr f ↦
-          inr (f .0,
-            steps.found-within n N R c rack U a x (bitOr 0 (2 ^ x)) (f .0) r refl (f .1),
-            steps.found-crowded n N R c rack U a x (bitOr 0 (2 ^ x)) (f .0) r refl (f .1),
-            steps.found-least n N R c rack U a x (bitOr 0 (2 ^ x)) (f .0) r refl (f .1))
+        | inl h ↦ inl h
+        | inr f ↦
+            inr (
+              f .0,
+              steps.found-within n N R c rack U a x (bitOr 0 (2 ^ x)) (f .0) r refl (f .1),
+              steps.found-crowded n N R c rack U a x (bitOr 0 (2 ^ x)) (f .0) r refl (f .1),
+              steps.found-least n N R c rack U a x (bitOr 0 (2 ^ x)) (f .0) r refl (f .1),
+            )
       ]
 
 module _ (N R c : ℕ) (rack : ℕ → ℕ) (U : ℕ → ℕ → Bool) (sized : Sized N R rack U) where
   none-placed : Complete 0 c rack U (λ _. 0)
   none-placed = record {
-      usable = λ i l. absurd (omega arith);
-      distinct = λ i j l. absurd (omega arith);
-      spread = λ r. omega (arith, count-max 0 (λ i. eqb (rack 0) r))
-    }
+    usable = λ i l. absurd (omega arith);
+    distinct = λ i j l. absurd (omega arith);
+    spread = λ r. omega (arith, count-max 0 (λ i. eqb (rack 0) r));
+  }
 
   -- of the first n blocks, all can be placed, or some set is crowded
   pub decided : (n : ℕ) → Some-complete n N R c rack U ⊎ ((w : ℕ) × (w < 2 ^ n) × Crowded n N R c rack U (member w))
   decided zero = inl ((λ _. 0), none-placed)
   decided (suc n) =
       elim (decided n) [
-        inl p ↦
-          elim (searched (suc n) N R c rack U sized (p .0) n (partial-next n c rack U (p .0) (p .1))) [
-            inl q ↦ inl q
-          | inr q ↦ inr (q .0, q .1, q .2)
-          ]
-      | inr q ↦
-          inr (q .0, omega (arith, q .1, pow-below n (suc n) (omega arith)),
-            crowded-more n (suc n) N N R c rack rack U U (member (q .0)) (omega arith) (λ i v _ u. (sized .node i v u, u, refl))
-            (λ i l _. member-past n (q .0) i (q .1) l) (q .2))
+        | inl p ↦
+            elim (searched (suc n) N R c rack U sized (p .0) n (partial-next n c rack U (p .0) (p .1))) [
+              | inl q ↦ inl q
+              | inr q ↦ inr (q .0, q .1, q .2)
+            ]
+        | inr q ↦
+            inr (
+              q .0,
+              omega (arith, q .1, pow-below n (suc n) (omega arith)),
+              crowded-more n (suc n) N N R c rack rack U U (member (q .0)) (omega arith) (λ i v _ u. (sized .node i v u, u, refl))
+                  (λ i l _. member-past n (q .0) i (q .1) l) (q .2),
+            )
       ]

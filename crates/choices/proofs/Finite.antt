@@ -75,8 +75,8 @@ count-lt (suc n) p q h j l no′ on =
     let t : p n ≡ true → q n ≡ true = h n (omega arith) in
     let c : countTo n p ≤ countTo n q = count-le n p q rest in
     elim (cases-eq j n) [
-      inl s ↦ let a : p n ≡ false = rw s at no′ in let b : q n ≡ true = rw s at on in simp (a, b) (omega arith)
-    | inr s ↦ let i : countTo n p < countTo n q = count-lt n p q rest j (omega arith) no′ on in grind arith
+      | inl s ↦ let a : p n ≡ false = rw s at no′ in let b : q n ≡ true = rw s at on in simp (a, b) (omega arith)
+      | inr s ↦ let i : countTo n p < countTo n q = count-lt n p q rest j (omega arith) no′ on in grind arith
     ]
 
 -- at most one place passes
@@ -86,10 +86,10 @@ count-one zero p h = omega arith
 count-one (suc n) p h =
     let i : countTo n p ≤ 1 = count-one n p (λ j k l m. h j k (omega arith) (omega arith)) in
     elim (cases-bool (p n)) [
-      inl t ↦
-        let e : countTo n p ≡ 0 = count-none n p (λ k l s. let z : k ≡ n = h k n (omega arith) (omega arith) s t in omega arith) in
-        simp (t, e) (omega arith)
-    | inr t ↦ simp t (omega arith)
+      | inl t ↦
+          let e : countTo n p ≡ 0 = count-none n p (λ k l s. let z : k ≡ n = h k n (omega arith) (omega arith) s t in omega arith) in
+          simp (t, e) (omega arith)
+      | inr t ↦ simp t (omega arith)
     ]
 
 pub count-some : (n : ℕ) (p : ℕ → Bool) (j : ℕ) → j < n → p j ≡ true → 1 ≤ countTo n p
@@ -97,8 +97,8 @@ unfolding countTo
 count-some zero p j l t = absurd (omega arith)
 count-some (suc n) p j l t =
     elim (cases-eq j n) [
-      inl s ↦ let a : p n ≡ true = rw s at t in simp a (omega arith)
-    | inr s ↦ let i : 1 ≤ countTo n p = count-some n p j (omega arith) t in omega arith
+      | inl s ↦ let a : p n ≡ true = rw s at t in simp a (omega arith)
+      | inr s ↦ let i : 1 ≤ countTo n p = count-some n p j (omega arith) t in omega arith
     ]
 
 -- a count is the sum of the counts at each value of f
@@ -125,11 +125,11 @@ unfolding countTo
 count-but-one zero p q j h = omega arith
 count-but-one (suc n) p q j h =
     elim (cases-eq n j) [
-      inl s ↦
-        let c : countTo n p ≤ countTo n q = count-le n p q (λ k l. h k (omega arith) (omega arith)) in grind arith
-    | inr s ↦
-        let t : p n ≡ true → q n ≡ true = h n (omega arith) s in
-        let c : countTo n p ≤ countTo n q + 1 = count-but-one n p q j (λ k l. h k (omega arith)) in grind arith
+      | inl s ↦
+          let c : countTo n p ≤ countTo n q = count-le n p q (λ k l. h k (omega arith) (omega arith)) in grind arith
+      | inr s ↦
+          let t : p n ≡ true → q n ≡ true = h n (omega arith) s in
+          let c : countTo n p ≤ countTo n q + 1 = count-but-one n p q j (λ k l. h k (omega arith)) in grind arith
     ]
 
 -- f takes what p passes, one to one, to what q passes
@@ -142,21 +142,21 @@ inject m n p q f into one =
     at : (v : ℕ) → v < n → countTo m (λ k. p k && eqb (f k) v) ≤ cond (q v) 1 0
     at v l =
         elim (cases-bool (q v)) [
-          inl t ↦
-            simp t
-            (count-one m (λ k. p k && eqb (f k) v)
+          | inl t ↦
+              simp t
+              (count-one m (λ k. p k && eqb (f k) v)
               (λ j k a b s u.
-                let s′ = and-parts (p j) _ s in
-                let u′ = and-parts (p k) _ u in
-                one j k a b (s′ .0) (u′ .0) (eqb-true (f j) v (s′ .1) ∙ sym (eqb-true (f k) v (u′ .1)))))
-        | inr t ↦
-            let z : countTo m (λ k. p k && eqb (f k) v) ≡ 0 =
+              let s′ = and-parts (p j) _ s in
+              let u′ = and-parts (p k) _ u in
+              one j k a b (s′ .0) (u′ .0) (eqb-true (f j) v (s′ .1) ∙ sym (eqb-true (f k) v (u′ .1)))))
+          | inr t ↦
+              let z : countTo m (λ k. p k && eqb (f k) v) ≡ 0 =
               count-none m (λ k. p k && eqb (f k) v)
               (λ k a s.
-                let s′ = and-parts (p k) _ s in
-                let u : q v ≡ true = rw (eqb-true (f k) v (s′ .1)) at (into k a (s′ .0) .1) in
-                both-ways (q v) t u) in
-            omega arith
+              let s′ = and-parts (p k) _ s in
+              let u : q v ≡ true = rw (eqb-true (f k) v (s′ .1)) at (into k a (s′ .0) .1) in
+              both-ways (q v) t u) in
+              omega arith
         ]
 
 -- and misses v, which q passes
@@ -165,10 +165,10 @@ pub inject-lt : (m n : ℕ) (p q : ℕ → Bool) (f : ℕ → ℕ) → ((k : ℕ
     → (v : ℕ) → v < n → q v ≡ true → ((k : ℕ) → k < m → p k ≡ true → f k ≡ v → ⊥) → countTo m p < countTo n q
 inject-lt m n p q f into one v l t miss =
     let less : countTo n (λ u. q u && not (eqb u v)) < countTo n q =
-      count-lt n (λ u. q u && not (eqb u v)) q (λ k _ s. and-parts (q k) _ s .0) v l (simp (t, eq-eqb v v refl)) t in
+    count-lt n (λ u. q u && not (eqb u v)) q (λ k _ s. and-parts (q k) _ s .0) v l (simp (t, eq-eqb v v refl)) t in
     let most : countTo m p ≤ countTo n (λ u. q u && not (eqb u v)) =
-      inject m n p (λ u. q u && not (eqb u v)) f
-      (λ k a s. (into k a s .0, and-from _ _ (into k a s .1) (simp (ne-eqb (f k) v (miss k a s))))) one in
+    inject m n p (λ u. q u && not (eqb u v)) f
+    (λ k a s. (into k a s .0, and-from _ _ (into k a s .1) (simp (ne-eqb (f k) v (miss k a s))))) one in
     omega arith
 
 -- each place that q passes is f of one that p passes
@@ -181,10 +181,10 @@ cover m n p q f into onto =
     at : (v : ℕ) → v < n → cond (q v) 1 0 ≤ countTo m (λ k. p k && eqb (f k) v)
     at v l =
         elim (cases-bool (q v)) [
-          inl t ↦
-            let o = onto v l t in
-            simp t (count-some m (λ k. p k && eqb (f k) v) (o .0) (o .1) (and-from _ _ (o .2) (eq-eqb _ _ (o .3))))
-        | inr t ↦ simp t (omega arith)
+          | inl t ↦
+              let o = onto v l t in
+              simp t (count-some m (λ k. p k && eqb (f k) v) (o .0) (o .1) (and-from _ _ (o .2) (eq-eqb _ _ (o .3))))
+          | inr t ↦ simp t (omega arith)
         ]
 
 -- a fact of each number below n, unless q
@@ -192,8 +192,8 @@ pub each-or : (n : ℕ) (P : ℕ → Type 0) (Q : Type 0) → ((k : ℕ) → k <
 each-or zero P Q h = inl (λ k l. absurd (omega arith))
 each-or (suc n) P Q h =
     elim (h n (omega arith)) [
-      inr q ↦ inr q
-    | inl p ↦ elim (each-or n P Q (λ k l. h k (omega arith))) [ inr q ↦ inr q | inl ps ↦ inl (λ k l. elim (cases-eq k n) [ inl e ↦ rw e p | inr e ↦ ps k (omega arith) ]) ]
+      | inr q ↦ inr q
+      | inl p ↦ elim (each-or n P Q (λ k l. h k (omega arith))) [ inr q ↦ inr q | inl ps ↦ inl (λ k l. elim (cases-eq k n) [ inl e ↦ rw e p | inr e ↦ ps k (omega arith) ]) ]
     ]
 
 pub count-max : (n : ℕ) (p : ℕ → Bool) → countTo n p ≤ n
@@ -214,6 +214,6 @@ unfolding countTo
 count-mono m zero p l = let e : m ≡ 0 = omega arith in rw e (omega arith)
 count-mono m (suc n) p l =
     elim (cases-eq m (suc n)) [
-      inl e ↦ rw e (le-refl _)
-    | inr e ↦ let i : countTo m p ≤ countTo n p = count-mono m n p (omega arith) in omega arith
+      | inl e ↦ rw e (le-refl _)
+      | inr e ↦ let i : countTo m p ≤ countTo n p = count-mono m n p (omega arith) in omega arith
     ]

@@ -1,4 +1,10 @@
--- Sets of blocks against the nodes that they can use: a placed set is not crowded, a closed one is, and a crowded one is closed.
+-- Sets of blocks against the nodes that they can use.
+-- Bound: in each rack lie at most c placed blocks of a set, and at most as many as it can use nodes there; so no more of
+-- its blocks are placed than its reach.
+-- Crowded: let one block of a set have no place, and no node of the set be open. In a rack with a free node of the set, c of its blocks lie;
+-- in any other, its blocks hold all of its nodes. So its reach is at most the number of its placed blocks.
+-- Closed: let all blocks but one be placed, and a set be crowded. By the bound it has that block, and its others fill its reach rack by rack;
+-- so it has the block that holds a node of its own, and every block of a rack where one of its nodes is free.
 use mathlib.Core.Path.{_≡_, refl, sym, ap, _∙_}
 use mathlib.Core.Bool.{Bool, true, false, not, _&&_}
 use mathlib.Core.Logic.{_⊎_, inl, inr}
@@ -25,14 +31,14 @@ pub reach-le : (n m M N R c : ℕ) (place rack : ℕ → ℕ) (U V : ℕ → ℕ
 reach-le n m M N R c place rack U V S T h =
     sum-le R (λ r. min c (countTo M (useful n place U S r))) (λ r. min c (countTo N (useful m rack V T r)))
     (λ r _.
-      le-min (min-le-left c _)
-      (le-trans (min-le-right c _)
-        (inject M N (useful n place U S r) (useful m rack V T r) (λ v. v)
-          (λ v _ t.
-            let t′ = and-parts (eqb (place v) r) _ t in
-            let k = h v (t′ .1) in
-            (k .0, and-from _ _ (eq-eqb _ _ (sym (k .2) ∙ eqb-true _ _ (t′ .0))) (k .1)))
-          (λ _ _ _ _ _ _ e. e))))
+    le-min (min-le-left c _)
+    (le-trans (min-le-right c _)
+    (inject M N (useful n place U S r) (useful m rack V T r) (λ v. v)
+    (λ v _ t.
+    let t′ = and-parts (eqb (place v) r) _ t in
+    let k = h v (t′ .1) in
+    (k .0, and-from _ _ (eq-eqb _ _ (sym (k .2) ∙ eqb-true _ _ (t′ .0))) (k .1)))
+    (λ _ _ _ _ _ _ e. e))))
 
 -- a crowded set stays crowded where more blocks come after it, and where its blocks can use no more
 pub crowded-more : (n m M N R c : ℕ) (place rack : ℕ → ℕ) (U V : ℕ → ℕ → Bool) (S : ℕ → Bool) → n ≤ m
@@ -46,10 +52,10 @@ crowded-more n m M N R c place rack U V S l same past t =
         let h = any-decides m (λ i. S i && V i v) .0 e in
         let p = and-parts (S (h .0)) _ (h .2) in
         elim (cases-lt (h .0) n) [
-          inl k ↦
-            let q = same (h .0) v k (p .1) in
-            (q .0, any-decides n (λ i. S i && U i v) .1 (h .0, k, and-from _ _ (p .0) (q .1)), q .2)
-        | inr k ↦ absurd (both-ways _ (past (h .0) k (h .1)) (p .0))
+          | inl k ↦
+              let q = same (h .0) v k (p .1) in
+              (q .0, any-decides n (λ i. S i && U i v) .1 (h .0, k, and-from _ _ (p .0) (q .1)), q .2)
+          | inr k ↦ absurd (both-ways _ (past (h .0) k (h .1)) (p .0))
         ]
 
 module _ (n N R c : ℕ) (rack : ℕ → ℕ) (U : ℕ → ℕ → Bool) (sized : Sized N R rack U)
@@ -85,7 +91,7 @@ module _ (n N R c : ℕ) (rack : ℕ → ℕ) (U : ℕ → ℕ → Bool) (sized 
   share-le S r =
       le-min
       (le-trans (count-le n (at S r) (λ x. D x && eqb (rack (a x)) r) (λ k l t. let h = parts S r k t in and-from _ _ (h .1) (eq-eqb _ _ (h .2))))
-        (placed .spread r))
+      (placed .spread r))
       (inject n N (at S r) (useful n rack U S r) a (into S r) (one S r))
 
   shares : (S : ℕ → Bool) → sumTo R (share S) ≡ countTo n (λ x. S x && D x)
@@ -97,8 +103,8 @@ module _ (n N R c : ℕ) (rack : ℕ → ℕ) (U : ℕ → ℕ → Bool) (sized 
   placed-le S = omega (arith, shares S, sum-le R (share S) _ (λ r _. share-le S r))
 
   -- a set of placed blocks is not larger than its reach
-  pub not-tight : (S : ℕ → Bool) → ((x : ℕ) → x < n → S x ≡ true → D x ≡ true) → countTo n S ≤ reachOf n N R c rack U S
-  not-tight S sub =
+  pub placed-reach : (S : ℕ → Bool) → ((x : ℕ) → x < n → S x ≡ true → D x ≡ true) → countTo n S ≤ reachOf n N R c rack U S
+  placed-reach S sub =
       omega (arith, placed-le S, count-le n S (λ x. S x && D x) (λ k l t. and-from _ _ t (sub k l t)))
 
   -- v is held by a block of S, or the blocks of S fill its rack
@@ -108,42 +114,46 @@ module _ (n N R c : ℕ) (rack : ℕ → ℕ) (U : ℕ → ℕ → Bool) (sized 
   abbrev Held : (ℕ → Bool) → ℕ → ℕ → Type 0
   Held V r v = useful n rack U V r v ≡ true → (x : ℕ) × (x < n) × (at V r x ≡ true) × (a x ≡ v)
 
-  -- a set with a block that is not placed, and with no node open to it, is tight
-  pub tight : (V : ℕ → Bool) (b : ℕ) → b < n → V b ≡ true → D b ≡ false
+  -- a set with a block that is not placed, and with no node open to it, is crowded
+  pub crowded : (V : ℕ → Bool) (b : ℕ) → b < n → V b ≡ true → D b ≡ false
       → ((v : ℕ) → v < N → anyTo n (λ k. V k && U k v) ≡ true → Covered V v) → reachOf n N R c rack U V < countTo n V
-  tight V b l vb db closed =
-      omega (arith, sum-le R _ (share V) (λ r _. full r), shares V,
-        count-lt n (λ x. V x && D x) V (λ k _ t. and-parts (V k) _ t .0) b l (simp (vb, db)) vb)
+  crowded V b l vb db closed =
+      omega (
+        arith,
+        sum-le R _ (share V) (λ r _. full r),
+        shares V,
+        count-lt n (λ x. V x && D x) V (λ k _ t. and-parts (V k) _ t .0) b l (simp (vb, db)) vb,
+      )
     where
       held : (r v : ℕ) → v < N → Held V r v ⊎ (c ≤ share V r)
       held r v k =
           elim (cases-bool (useful n rack U V r v)) [
-            inr t ↦ inl (λ s. absurd (both-ways _ t s))
-          | inl t ↦
-              let t′ = and-parts (eqb (rack v) r) _ t in
-              let e : rack v ≡ r = eqb-true _ _ (t′ .0) in
-              elim (closed v k (t′ .1)) [
-                inl h ↦ inl (λ _. (h .0, h .1, and-from _ _ (and-from _ _ (h .2) (h .3)) (eq-eqb _ _ (ap rack (h .4) ∙ e)), h .4))
-              | inr h ↦ inr (rw e at h)
-              ]
+            | inr t ↦ inl (λ s. absurd (both-ways _ t s))
+            | inl t ↦
+                let t′ = and-parts (eqb (rack v) r) _ t in
+                let e : rack v ≡ r = eqb-true _ _ (t′ .0) in
+                elim (closed v k (t′ .1)) [
+                  | inl h ↦ inl (λ _. (h .0, h .1, and-from _ _ (and-from _ _ (h .2) (h .3)) (eq-eqb _ _ (ap rack (h .4) ∙ e)), h .4))
+                  | inr h ↦ inr (rw e at h)
+                ]
           ]
 
       full : (r : ℕ) → min c (countTo N (useful n rack U V r)) ≤ share V r
       full r =
           elim (each-or N (Held V r) (c ≤ share V r) (held r)) [
-            inl h ↦
-              le-trans (min-le-right c _) (cover n N (at V r) (useful n rack U V r) a (λ k l t. into V r k l t .0) h)
-          | inr h ↦ le-trans (min-le-left c _) h
+            | inl h ↦
+                le-trans (min-le-right c _) (cover n N (at V r) (useful n rack U V r) a (λ k l t. into V r k l t .0) h)
+            | inr h ↦ le-trans (min-le-left c _) h
           ]
 
   module _ (b : ℕ) (rest : (x : ℕ) → x < n → (x ≡ b → ⊥) → D x ≡ true) (T : ℕ → Bool) (small : reachOf n N R c rack U T < countTo n T) where
-    -- a tight set has the one block that is not placed
+    -- a crowded set has the one block that is not placed
     pub has-out : T b ≡ true
     has-out =
         elim (cases-bool (T b)) [
-          inl t ↦ t
-        | inr t ↦
-            absurd (omega (arith, not-tight T (λ x l s. rest x l (λ e. both-ways (T b) t (rw e at s)))))
+          | inl t ↦ t
+          | inr t ↦
+              absurd (omega (arith, placed-reach T (λ x l s. rest x l (λ e. both-ways (T b) t (rw e at s)))))
         ]
 
     filled : (r : ℕ) → r < R → min c (countTo N (useful n rack U T r)) ≤ share T r
@@ -151,30 +161,30 @@ module _ (n N R c : ℕ) (rack : ℕ → ℕ) (U : ℕ → ℕ → Bool) (sized 
         sum-pinch R (share T) _ (λ r _. share-le T r)
         (omega (arith, shares T, count-but-one n T (λ x. T x && D x) b (λ k l e t. and-from _ _ t (rest k l e))))
 
-    -- a tight set that can use v, and does not hold it, has every block of v's rack
+    -- a crowded set that can use v, and does not hold it, has every block of v's rack
     pub spreads : (x v y : ℕ) → x < n → T x ≡ true → U x v ≡ true → ((z : ℕ) → z < n → T z ≡ true → D z ≡ true → a z ≡ v → ⊥)
         → y < n → D y ≡ true → rack (a y) ≡ rack v → T y ≡ true
     spreads x v y l t u free m d e =
         elim (cases-bool (T y)) [
-          inl s ↦ s
-        | inr s ↦
-            let r : ℕ = rack v in
-            let room : share T (rack v) < countTo n (λ x. D x && eqb (rack (a x)) (rack v)) =
+          | inl s ↦ s
+          | inr s ↦
+              let r : ℕ = rack v in
+              let room : share T (rack v) < countTo n (λ x. D x && eqb (rack (a x)) (rack v)) =
               count-lt n (at T (rack v)) (λ x. D x && eqb (rack (a x)) (rack v))
               (λ k _ t. let h = parts T (rack v) k t in and-from _ _ (h .1) (eq-eqb _ _ (h .2))) y m (simp s) (and-from _ _ d (eq-eqb _ _ e)) in
-            let more : share T (rack v) < countTo N (useful n rack U T (rack v)) =
+              let more : share T (rack v) < countTo N (useful n rack U T (rack v)) =
               inject-lt n N (at T (rack v)) (useful n rack U T (rack v)) a (into T (rack v)) (one T (rack v)) v (sized .node x v u)
               (and-from _ _ (eq-eqb _ _ refl) (use-of T x v l t u))
               (λ k l s e. let h = parts T (rack v) k s in free k l (h .0) (h .1) e) in
-            absurd (omega (arith, filled (rack v) (sized .racked x v u), placed .spread (rack v)))
+              absurd (omega (arith, filled (rack v) (sized .racked x v u), placed .spread (rack v)))
         ]
 
     -- and the block that holds v
     pub follows : (x v y : ℕ) → x < n → T x ≡ true → U x v ≡ true → y < n → D y ≡ true → a y ≡ v → T y ≡ true
     follows x v y l t u m d e =
         elim (cases-bool (T y)) [
-          inl s ↦ s
-        | inr s ↦
-            spreads x v y l t u
-            (λ z k p q f. let same : z ≡ y = placed .distinct z y k m q d (f ∙ sym e) in both-ways (T y) s (rw same at p)) m d (ap rack e)
+          | inl s ↦ s
+          | inr s ↦
+              spreads x v y l t u
+              (λ z k p q f. let same : z ≡ y = placed .distinct z y k m q d (f ∙ sym e) in both-ways (T y) s (rw same at p)) m d (ap rack e)
         ]

@@ -26,13 +26,13 @@ module _ (n c : ℕ) (rack a : ℕ → ℕ) (x : ℕ) where
   pub covered-more : (S T : ℕ → Bool) (v : ℕ) → ((k : ℕ) → S k ≡ true → T k ≡ true) → Covered n c rack a x S v → Covered n c rack a x T v
   covered-more S T v sub h =
       elim h [
-        inl k ↦ inl (k .0, k .1, sub (k .0) (k .2), k .3, k .4)
-      | inr k ↦
-          inr (le-trans k
+        | inl k ↦ inl (k .0, k .1, sub (k .0) (k .2), k .3, k .4)
+        | inr k ↦
+            inr (le-trans k
             (count-le n (λ k. (S k && but x k) && eqb (rack (a k)) (rack v)) (λ k. (T k && but x k) && eqb (rack (a k)) (rack v))
-              (λ k l t.
-                let t′ = and-parts (S k && but x k) _ t in
-                let t″ = and-parts (S k) _ (t′ .0) in and-from _ _ (and-from _ _ (sub k (t″ .0)) (t″ .1)) (t′ .1))))
+            (λ k l t.
+            let t′ = and-parts (S k && but x k) _ t in
+            let t″ = and-parts (S k) _ (t′ .0) in and-from _ _ (and-from _ _ (sub k (t″ .0)) (t″ .1)) (t′ .1))))
       ]
 
   -- what no open node means, once every block that can give way is in the set
@@ -40,13 +40,13 @@ module _ (n c : ℕ) (rack a : ℕ → ℕ) (x : ℕ) where
       → ((k : ℕ) → k < n → (k ≡ x → ⊥) → Way n rack a x k v → S k ≡ true) → Covered n c rack a x S v
   closed S v shut all =
       elim shut [
-        inl h ↦ inl (h .0, h .1, all (h .0) (h .1) (h .2) (inl (h .3)), but-yes x (h .0) (h .2), h .3)
-      | inr h ↦
-          inr (le-trans (h .1)
+        | inl h ↦ inl (h .0, h .1, all (h .0) (h .1) (h .2) (inl (h .3)), but-yes x (h .0) (h .2), h .3)
+        | inr h ↦
+            inr (le-trans (h .1)
             (count-le n (λ k. but x k && eqb (rack (a k)) (rack v)) (λ k. (S k && but x k) && eqb (rack (a k)) (rack v))
-              (λ k l t.
-                let t′ = and-parts (but x k) _ t in
-                and-from _ _ (and-from _ _ (all k l (but-no x k (t′ .0)) (inr (h .0, eqb-true _ _ (t′ .1)))) (t′ .0)) (t′ .1))))
+            (λ k l t.
+            let t′ = and-parts (but x k) _ t in
+            and-from _ _ (and-from _ _ (all k l (but-no x k (t′ .0)) (inr (h .0, eqb-true _ _ (t′ .1)))) (t′ .0)) (t′ .1))))
       ]
 
 module _ (n c : ℕ) (rack : ℕ → ℕ) (U : ℕ → ℕ → Bool) (a : ℕ → ℕ) (x v : ℕ) (a′ : ℕ → ℕ) (m : Moved a x v a′) (p : Partial n c rack U a x) (u : U x v ≡ true) where
@@ -63,18 +63,18 @@ module _ (n c : ℕ) (rack : ℕ → ℕ) (U : ℕ → ℕ → Bool) (a : ℕ �
     pub back : (S : ℕ → Bool) → S x ≡ true → S y ≡ true → (z : ℕ) → Covered n c rack a′ y S z → Covered n c rack a x S z ⊎ (z ≡ v)
     back S sx sy z h =
         elim h [
-          inl k ↦
-            elim (cases-eq (k .0) x) [
-              inl e ↦ inr (sym (k .4) ∙ ap a′ e ∙ m .here)
-            | inr e ↦ inl (inl (k .0, k .1, k .2, but-yes x (k .0) e, sym (m .there (k .0) e) ∙ k .4))
-            ]
-        | inr k ↦ inl (inr (le-trans k (moves.share-back n c rack U a a′ x v m (p .placed) u y ne l way S sx sy (rack z))))
+          | inl k ↦
+              elim (cases-eq (k .0) x) [
+                | inl e ↦ inr (sym (k .4) ∙ ap a′ e ∙ m .here)
+                | inr e ↦ inl (inl (k .0, k .1, k .2, but-yes x (k .0) e, sym (m .there (k .0) e) ∙ k .4))
+              ]
+          | inr k ↦ inl (inr (le-trans k (moves.share-back n c rack U a a′ x v m (p .placed) u y ne l way S sx sy (rack z))))
         ]
 
 module _ (n N R c : ℕ) (rack : ℕ → ℕ) (U : ℕ → ℕ → Bool) (sized : Sized N R rack U) where
   -- where all blocks are placed, no set is crowded
   pub uncrowded : (a : ℕ → ℕ) → Complete n c rack U a → (T : ℕ → Bool) → countTo n T ≤ reachOf n N R c rack U T
-  uncrowded a p T = reach.not-tight n N R c rack U sized (λ _. true) a p T (λ _ _ _. refl)
+  uncrowded a p T = reach.placed-reach n N R c rack U sized (λ _. true) a p T (λ _ _ _. refl)
 
   -- every crowded set has the block with no place
   pub forced-out : (a : ℕ → ℕ) (x : ℕ) → Partial n c rack U a x → (T : ℕ → Bool) → Crowded n N R c rack U T → T x ≡ true
@@ -84,15 +84,15 @@ module _ (n N R c : ℕ) (rack : ℕ → ℕ) (U : ℕ → ℕ → Bool) (sized 
   pub found : (a : ℕ → ℕ) (x w w′ : ℕ) → Partial n c rack U a x → Failed n N R c rack U a x w w′
       → ((k : ℕ) → member w k ≡ true → k ≡ x) → member w x ≡ true → Crowded n N R c rack U (member w′)
   found a x w w′ p f only own =
-      reach.tight n N R c rack U sized (but x) a (p .placed) (member w′) x (p .inside) (f .grown .more x own) (simp (eq-eqb x x refl)) covers
+      reach.crowded n N R c rack U sized (but x) a (p .placed) (member w′) x (p .inside) (f .grown .more x own) (simp (eq-eqb x x refl)) covers
     where
       covers : (v : ℕ) → v < N → anyTo n (λ k. member w′ k && U k v) ≡ true → Covered n c rack a x (member w′) v
       covers v _ t =
           let h = any-decides n (λ k. member w′ k && U k v) .0 t in
           let m = and-parts (member w′ (h .0)) _ (h .2) in
           elim (cases-bool (member w (h .0))) [
-            inl e ↦ f .own v (rw (only (h .0) e) at (m .1))
-          | inr e ↦ f .new (h .0) (h .1) (m .0) e v (m .1)
+            | inl e ↦ f .own v (rw (only (h .0) e) at (m .1))
+            | inr e ↦ f .new (h .0) (h .1) (m .0) e v (m .1)
           ]
 
   pub least : (a : ℕ → ℕ) (x w w′ : ℕ) → Partial n c rack U a x → Failed n N R c rack U a x w w′

@@ -32,32 +32,36 @@ module _ (n N R c : ℕ) (rack : ℕ → ℕ) (U : ℕ → ℕ → Bool) where
 
   pub grown-more : (w₀ w w′ : ℕ) → Grown n N R c rack U w₀ w → Grown n N R c rack U w w′ → Grown n N R c rack U w₀ w′
   grown-more w₀ w w′ g h = record {
-      more = λ k m. h .more k (g .more k m); within = λ l. h .within (g .within l); forced = λ T t m. h .forced T t (g .forced T t m)
-    }
+    more = λ k m. h .more k (g .more k m);
+    within = λ l. h .within (g .within l);
+    forced = λ T t m. h .forced T t (g .forced T t m);
+  }
 
   module _ (a : ℕ → ℕ) (x : ℕ) where
     module _ (v : ℕ) where
       pub trying-none : (w : ℕ) → Trying n N R c rack U a x v w w 0
       trying-none w = record {
-          grown = grown-none w; new = λ z _ m n. absurd (both-ways _ n m); passed = λ k l. absurd (omega arith)
-        }
+        grown = grown-none w;
+        new = λ z _ m n. absurd (both-ways _ n m);
+        passed = λ k l. absurd (omega arith);
+      }
 
       -- y is not tried
       pub trying-skip : (w₀ w y : ℕ) → Trying n N R c rack U a x v w₀ w y → (y ≡ x) ⊎ ((member w y ≡ true) ⊎ (Way n rack a x y v → ⊥))
           → Trying n N R c rack U a x v w₀ w (y + 1)
       trying-skip w₀ w y t why = record {
-          grown = t .grown;
-          new = t .new;
-          passed = λ k l ne way.
+        grown = t .grown;
+        new = t .new;
+        passed = λ k l ne way.
             elim (cases-eq k y) [
-              inl e ↦
-                elim why [
-                  inl g ↦ absurd (ne (e ∙ g))
-                | inr h ↦ elim h [ inl m ↦ rw e m | inr no′ ↦ absurd (no′ (rw e at way)) ]
-                ]
-            | inr e ↦ t .passed k (omega arith) ne way
-            ]
-        }
+              | inl e ↦
+                  elim why [
+                    | inl g ↦ absurd (ne (e ∙ g))
+                    | inr h ↦ elim h [ inl m ↦ rw e m | inr no′ ↦ absurd (no′ (rw e at way)) ]
+                  ]
+              | inr e ↦ t .passed k (omega arith) ne way
+            ];
+      }
 
       -- y is tried, in vain
       pub trying-more : Sized N R rack U → Partial n c rack U a x → U x v ≡ true → (a′ : ℕ → ℕ) → Moved a x v a′
@@ -65,31 +69,31 @@ module _ (n N R c : ℕ) (rack : ℕ → ℕ) (U : ℕ → ℕ → Bool) where
           → member w₀ x ≡ true → y < n → (y ≡ x → ⊥) → member w y ≡ false → Way n rack a x y v
           → Failed n N R c rack U a′ y (bitOr w (2 ^ y)) w′ → Trying n N R c rack U a x v w₀ w′ (y + 1)
       trying-more s p u a′ m′ w₀ w y w′ t own l ne no′ way f = record {
-          grown = record {
-            more = λ k m. step k (t .grown .more k m);
-            within = λ h. f .grown .within (or-lt n w (2 ^ y) (t .grown .within h) (pow-below y n l));
-            forced = λ T crowded sub.
+        grown = record {
+          more = λ k m. step k (t .grown .more k m);
+          within = λ h. f .grown .within (or-lt n w (2 ^ y) (t .grown .within h) (pow-below y n l));
+          forced = λ T crowded sub.
               f .grown .forced T crowded
               (λ k m.
-                elim (or-cases (member w k) _ (rw member-or at m)) [
-                  inl g ↦ t .grown .forced T crowded sub k g
+              elim (or-cases (member w k) _ (rw member-or at m)) [
+                | inl g ↦ t .grown .forced T crowded sub k g
                 | inr g ↦
                     rw (eqb-true k y g)
                     (sets.forced-out n N R c rack U s a′ y (sets.swapped n c rack U a x v a′ m′ p u y ne l way) T crowded)
-                ])
-          };
-          new = λ z k m n′ q g.
+              ]);
+        };
+        new = λ z k m n′ q g.
             elim (cases-bool (member w z)) [
-              inl d ↦
-                elim (t .new z k d n′ q g) [
-                  inl h ↦ inl (sets.covered-more n c rack a x (member w) (member w′) q step h)
-                | inr h ↦ inr h
-                ]
-            | inr d ↦
-                sets.back n c rack U a x v a′ m′ p u y ne l way (member w′) (step x (t .grown .more x own)) at-y q (after z k m d q g)
+              | inl d ↦
+                  elim (t .new z k d n′ q g) [
+                    | inl h ↦ inl (sets.covered-more n c rack a x (member w) (member w′) q step h)
+                    | inr h ↦ inr h
+                  ]
+              | inr d ↦
+                  sets.back n c rack U a x v a′ m′ p u y ne l way (member w′) (step x (t .grown .more x own)) at-y q (after z k m d q g)
             ];
-          passed = λ k h d e. elim (cases-eq k y) [ inl g ↦ rw g at-y | inr g ↦ step k (t .passed k (omega arith) d e) ]
-        }
+        passed = λ k h d e. elim (cases-eq k y) [ inl g ↦ rw g at-y | inr g ↦ step k (t .passed k (omega arith) d e) ];
+      }
         where
           step : Subset w (member w′)
           step k m = f .grown .more k (rw member-or (or-left _ _ m))
@@ -100,8 +104,8 @@ module _ (n N R c : ℕ) (rack : ℕ → ℕ) (U : ℕ → ℕ → Bool) where
           after : (z : ℕ) → z < n → member w′ z ≡ true → member w z ≡ false → Done n c rack U a′ y (member w′) z
           after z k m d =
               elim (cases-eq z y) [
-                inl e ↦ rw e (f .own)
-              | inr e ↦ f .new z k m (rw member-or (or-from _ _ d (ne-eqb z y e)))
+                | inl e ↦ rw e (f .own)
+                | inr e ↦ f .new z k m (rw member-or (or-from _ _ d (ne-eqb z y e)))
               ]
 
       -- all are tried
@@ -111,59 +115,61 @@ module _ (n N R c : ℕ) (rack : ℕ → ℕ) (U : ℕ → ℕ → Bool) where
           record {
             grown = t .grown;
             own = own;
-            new = λ z l m n′ q g. elim (t .new z l m n′ q g) [ inl h ↦ h | inr h ↦ rw h own ]
+            new = λ z l m n′ q g. elim (t .new z l m n′ q g) [ inl h ↦ h | inr h ↦ rw h own ];
           }
 
     module _ (f : ℕ → ℕ) where
       pub passing-none : (w : ℕ) → Passing n N R c rack U a x f w w 0
       passing-none w = record {
-          grown = grown-none w; new = λ z _ m n. absurd (both-ways _ n m); passed = λ k l. absurd (omega arith)
-        }
+        grown = grown-none w;
+        new = λ z _ m n. absurd (both-ways _ n m);
+        passed = λ k l. absurd (omega arith);
+      }
 
       -- x cannot use the node
       pub passing-skip : (w₀ w i : ℕ) → Passing n N R c rack U a x f w₀ w i → U x (f i) ≡ false → Passing n N R c rack U a x f w₀ w (i + 1)
       passing-skip w₀ w i t no′ = record {
-          grown = t .grown;
-          new = t .new;
-          passed = λ k l m.
-            elim (cases-eq k i) [ inl e ↦ absurd (both-ways _ no′ (rw e at m)) | inr e ↦ t .passed k (omega arith) m ]
-        }
+        grown = t .grown;
+        new = t .new;
+        passed = λ k l m.
+            elim (cases-eq k i) [ inl e ↦ absurd (both-ways _ no′ (rw e at m)) | inr e ↦ t .passed k (omega arith) m ];
+      }
 
       -- x tried the node, in vain
       pub passing-more : (w₀ w w′ i : ℕ) → Passing n N R c rack U a x f w₀ w i → Blocked n N R c rack U a x (f i) w w′
           → Passing n N R c rack U a x f w₀ w′ (i + 1)
       passing-more w₀ w w′ i t b = record {
-          grown = grown-more w₀ w w′ (t .grown) (b .grown);
-          new = λ z l m n′.
+        grown = grown-more w₀ w w′ (t .grown) (b .grown);
+        new = λ z l m n′.
             elim (cases-bool (member w z)) [
-              inl d ↦ λ q g. sets.covered-more n c rack a x (member w) (member w′) q (b .grown .more) (t .new z l d n′ q g)
-            | inr d ↦ b .new z l m d
+              | inl d ↦ λ q g. sets.covered-more n c rack a x (member w) (member w′) q (b .grown .more) (t .new z l d n′ q g)
+              | inr d ↦ b .new z l m d
             ];
-          passed = λ k l m.
+        passed = λ k l m.
             elim (cases-eq k i) [
-              inl e ↦ rw e (b .own)
-            | inr e ↦ sets.covered-more n c rack a x (member w) (member w′) (f k) (b .grown .more) (t .passed k (omega arith) m)
-            ]
-        }
+              | inl e ↦ rw e (b .own)
+              | inr e ↦ sets.covered-more n c rack a x (member w) (member w′) (f k) (b .grown .more) (t .passed k (omega arith) m)
+            ];
+      }
 
       -- every node that x can use was tried
       pub passing-all : (w₀ w i : ℕ) → Passing n N R c rack U a x f w₀ w i → ((v : ℕ) → U x v ≡ true → (k : ℕ) × (k < i) × (f k ≡ v))
           → Failed n N R c rack U a x w₀ w
       passing-all w₀ w i t every = record {
-          grown = t .grown;
-          new = t .new;
-          own = λ v g. let h = every v g in rw (← (h .2)) (t .passed (h .0) (h .1) (rw (h .2) g))
-        }
+        grown = t .grown;
+        new = t .new;
+        own = λ v g. let h = every v g in rw (← (h .2)) (t .passed (h .0) (h .1) (rw (h .2) g));
+      }
 
     -- The same from what the search begins with. a₁ is the placement as the loop has it, which is a again.
     -- the call for the block y that gives way
     pub ready-next : (v w₀ : ℕ) → Ready n N R c rack U a x w₀ → U x v ≡ true → (a₁ a′ : ℕ → ℕ) → a₁ ≡ a → Moved a₁ x v a′
         → (w y m : ℕ) → y < n → (y ≡ x → ⊥) → Way n rack a₁ x y v → m ≡ bitOr w (2 ^ y) → Ready n N R c rack U a′ y m
     ready-next v w₀ r u a₁ a′ e m′ w y m l ne way g = record {
-        sized = r .sized;
-        partial = sets.swapped n c rack U a₁ x v a′ m′ (subst (λ b. Partial n c rack U b x) (sym e) (r .partial)) u y ne l way;
-        own = rw (g, member-or) (or-right (member w y) _ (eq-eqb y y refl))
-      }
+      sized = r .sized;
+      partial = sets.swapped n c rack U a₁ x v a′ m′ (subst (λ b. Partial n c rack U b x) (sym e) (r .partial)) u y ne l way;
+      own = rw (g, member-or) (or-right (member w y) _ (eq-eqb y y refl));
+    }
 
     pub skipped : (v w₀ : ℕ) (a₁ : ℕ → ℕ) → a₁ ≡ a → (w y : ℕ) → Trying n N R c rack U a x v w₀ w y
         → (y ≡ x) ⊎ ((member w y ≡ true) ⊎ (Way n rack a₁ x y v → ⊥)) → Trying n N R c rack U a x v w₀ w (y + 1)
@@ -180,8 +186,10 @@ module _ (n N R c : ℕ) (rack : ℕ → ℕ) (U : ℕ → ℕ → Bool) where
     -- the call for one node of x
     pub ready-same : (w₀ w : ℕ) → Ready n N R c rack U a x w₀ → (a₁ : ℕ → ℕ) → a₁ ≡ a → Grown n N R c rack U w₀ w → Ready n N R c rack U a₁ x w
     ready-same w₀ w r a₁ e g = record {
-        sized = r .sized; partial = subst (λ b. Partial n c rack U b x) (sym e) (r .partial); own = g .more x (r .own)
-      }
+      sized = r .sized;
+      partial = subst (λ b. Partial n c rack U b x) (sym e) (r .partial);
+      own = g .more x (r .own);
+    }
 
     pub passed-on : (f : ℕ → ℕ) (w₀ w w′ i : ℕ) (a₁ : ℕ → ℕ) → a₁ ≡ a → Passing n N R c rack U a x f w₀ w i
         → Blocked n N R c rack U a₁ x (f i) w w′ → Passing n N R c rack U a x f w₀ w′ (i + 1)

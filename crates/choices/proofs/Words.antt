@@ -93,10 +93,10 @@ pub member-same : (n u w : ℕ) → u < 2 ^ n → w < 2 ^ n → ((k : ℕ) → k
 member-same zero u w l m h = let a : u ≡ 0 = lt-one l in let b : w ≡ 0 = lt-one m in a ∙ sym b
 member-same (suc n) u w l m h =
     let ih : u / 2 ≡ w / 2 =
-      member-same n (u / 2) (w / 2) (shr-below u n 1 (rw add-one l)) (shr-below w n 1 (rw add-one m))
-      (λ k j. sym (member-half u k) ∙ h (suc k) (omega arith) ∙ member-half w k) in
+    member-same n (u / 2) (w / 2) (shr-below u n 1 (rw add-one l)) (shr-below w n 1 (rw add-one m))
+    (λ k j. sym (member-half u k) ∙ h (suc k) (omega arith) ∙ member-half w k) in
     let low : member u 0 ≡ member w 0 = h 0 (omega arith) in
     let d : u % 2 ≡ w % 2 =
-      low-digit u ∙ ap (λ x. cond (eqb (x % 2) 1) 1 0) (sym (div-one u)) ∙ ap (λ b. cond b 1 0) low
-      ∙ ap (λ x. cond (eqb (x % 2) 1) 1 0) (div-one w) ∙ sym (low-digit w) in
+    low-digit u ∙ ap (λ x. cond (eqb (x % 2) 1) 1 0) (sym (div-one u)) ∙ ap (λ b. cond b 1 0) low
+    ∙ ap (λ x. cond (eqb (x % 2) 1) 1 0) (div-one w) ∙ sym (low-digit w) in
     omega (arith, shr-split u 1, shr-split w 1)

@@ -26,7 +26,7 @@ No-tight-where-choice = (s : Site) (c : ℕ) (bs : List Copies) (vs : List ℕ) 
 -- there is a choice exactly where no set is tight
 abbrev pub Hall : Type 0
 Hall = (s : Site) (c : ℕ) (bs : List Copies) → Limits s
-  → (Some-choice s c bs → No-tight s c bs) × (No-tight s c bs → Some-choice s c bs)
+    → (Some-choice s c bs → No-tight s c bs) × (No-tight s c bs → Some-choice s c bs)
 
 -- and one or the other is found
 abbrev pub Choice-or-tight : Type 0
@@ -35,8 +35,8 @@ Choice-or-tight = (s : Site) (c : ℕ) (bs : List Copies) → Limits s → Some-
 -- where one more block takes the last choice away, there is a least tight set, and no other
 abbrev pub Least-exists : Type 0
 Least-exists = (s : Site) (c : ℕ) (bs : List Copies) (b : Copies) → Limits s
-  → Some-choice s c bs → (Some-choice s c (bs ++ (b ∷ [])) → ⊥)
-  → (w : ℕ) × LeastTight s c (bs ++ (b ∷ [])) w × ((u : ℕ) → LeastTight s c (bs ++ (b ∷ [])) u → u ≡ w)
+    → Some-choice s c bs → (Some-choice s c (bs ++ (b ∷ [])) → ⊥)
+    → (w : ℕ) × LeastTight s c (bs ++ (b ∷ [])) w × ((u : ℕ) → LeastTight s c (bs ++ (b ∷ [])) u → u ≡ w)
 
 -- a least tight set is the only one
 abbrev pub Least-one : Type 0
