@@ -6,6 +6,7 @@ pub mod Sets
 pub mod Steps
 pub mod Find
 pub mod Sites
+pub mod Least
 pub mod Nodes
 pub mod Counts
 pub mod Exact

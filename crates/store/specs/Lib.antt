@@ -1,0 +1,5 @@
+pub mod Stripes
+pub mod Refusals
+pub mod Ledger
+pub mod Answers
+pub mod Promise

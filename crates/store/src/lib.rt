@@ -1,0 +1,2 @@
+// One store over one map for life: its code, the 32 stripes, the eight calls, and the promise over any list of calls.
+pub mod types;
