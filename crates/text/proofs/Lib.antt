@@ -1,3 +1,4 @@
 pub mod LineLaws
+pub mod NodeListLaws
 pub mod NumberLaws
 pub mod PieceLaws

@@ -1,5 +1,6 @@
 pub mod Cells
 pub mod Faults
+pub mod NodeLists
 pub mod Numbers
 pub mod Pieces
 pub mod Rows
