@@ -4,3 +4,4 @@ pub mod NodeLists
 pub mod Numbers
 pub mod Pieces
 pub mod Rows
+pub mod Texts

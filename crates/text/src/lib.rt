@@ -9,3 +9,5 @@ pub mod place;
 pub mod reader;
 pub mod split;
 pub mod token;
+pub mod writer;
+pub mod writing;
