@@ -30,6 +30,10 @@ pub after-nothing : (o : Option (List ℕ)) → after [] o ≡ o
 after-nothing None = refl
 after-nothing (Some ws) = refl
 
+pub after-headed : (vs : List ℕ) (v : ℕ) (o : Option (List ℕ)) → after vs (headed (Some v) o) ≡ after (vs ++ v ∷ []) o
+after-headed vs v None = refl
+after-headed vs v (Some us) = ap Some (sym (append-assoc vs (v ∷ []) us))
+
 -- one turn: the first word of what is left is w, and ws follow it
 module _ (vs : List ℕ) (ps : List (List ℕ)) (w : List ℕ) (ws : List (List ℕ)) (is : ps ≡ w ∷ ws) where
   pub turn-bad : None ≡ numberIn 65535 w → after vs (numbersIn 65535 ps) ≡ None
@@ -37,10 +41,7 @@ module _ (vs : List ℕ) (ps : List (List ℕ)) (w : List ℕ) (ws : List (List 
 
   pub turn-good : (v : ℕ) → Some v ≡ numberIn 65535 w → after vs (numbersIn 65535 ps) ≡ after (vs ++ v ∷ []) (numbersIn 65535 ws)
   turn-good v e =
-      ap (λ l. after vs (numbersIn 65535 l)) is ∙ ap (λ o. after vs (headed o (numbersIn 65535 ws))) (sym e) ∙ longer (numbersIn 65535 ws) where
-    longer : (o : Option (List ℕ)) → after vs (headed (Some v) o) ≡ after (vs ++ v ∷ []) o
-    longer None = refl
-    longer (Some us) = ap Some (sym (append-assoc vs (v ∷ []) us))
+      ap (λ l. after vs (numbersIn 65535 l)) is ∙ ap (λ o. after vs (headed o (numbersIn 65535 ws))) (sym e) ∙ after-headed vs v (numbersIn 65535 ws)
 
 pub kept-whole : (l : NodeList) (vs : List ℕ) (o : Option (List ℕ)) → l .nodes ≡ padded 8 vs → l .len ≡ length vs → after vs (Some []) ≡ o → Some l ≡ kept o
 kept-whole l vs o e f g = (λ i. Some (record { nodes = e i; len = f i })) ∙ ap kept (ap Some (sym (append-nil vs)) ∙ g)

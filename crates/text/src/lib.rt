@@ -3,6 +3,7 @@
 pub mod fault;
 pub mod lexer;
 pub mod lines;
+pub mod names;
 pub mod nodes;
 pub mod number;
 pub mod place;

@@ -1,9 +1,9 @@
 // The parts of a text between separators. Lines, fields and words are all parted by it.
 ghost use mathlib.Core.Path.{_≡_};
 ghost use mathlib.Core.List.{_∷_};
-ghost use Prim.Native.Nat.{_≤_};
+ghost use Prim.Native.Nat.{ℕ, _≤_};
 ghost use lib.ListN.{length, take};
-ghost use Rattle.text.specs.Pieces.{pieces, piece, rest, Shorter};
+ghost use Rattle.text.specs.Pieces.{pieces, piece, parted, rest, lengthOf, Shorter};
 use crate::lines::MOST;
 
 // How many bytes stand before the first separator.
@@ -40,4 +40,15 @@ pub(crate) fn front(bytes: &[u8]) -> &[u8]
         return bytes;
     }
     &bytes[0..MOST]
+}
+
+// The bytes, if there are any: an empty text has no piece.
+pub(crate) fn unless_empty(bytes: &[u8]) -> Option<&[u8]>
+    ensures pieces { λ r. ⌜ ((sep : ℕ) → rest sep r ≡ parted sep (now (bytes .entry))) ⌝ }
+    ensures len { λ r. ⌜ lengthOf r ≡ length (now (bytes .entry)) ⌝ }
+{
+    if bytes.is_empty() {
+        return None;
+    }
+    Some(bytes)
 }
