@@ -1,4 +1,6 @@
+pub mod GlueLaws
 pub mod LineLaws
+pub mod NodeListExact
 pub mod NodeListLaws
 pub mod NumberLaws
 pub mod OrderExact

@@ -10,7 +10,7 @@ use lib.ListN.{length, take, drop, getD}
 use Rattle.std.proofs.shelf.Ways.{tells}
 use Rattle.std.specs.declared.option.Option.{Option}
 use Rattle.std.specs.declared.option.Option.the-variants.{Some, None}
-use Rattle.text.specs.Pieces.{pieces, piece, parted, onto, Shorter}
+use Rattle.text.specs.Pieces.{pieces, piece, parted, onto, lengthOf, Shorter}
 
 pub piece-stops : (sep b : ℕ) (bs : List ℕ) → b ≡ sep → length (piece sep (b ∷ bs)) ≡ 0
 piece-stops sep b bs h = grind (arith, tells)
@@ -64,3 +64,16 @@ parted-some sep (b ∷ bs) h = refl
 pub front-within : (bs front : List ℕ) (more : Option (RefT (List ℕ))) → Shorter bs front more → length front ≤ length bs
 front-within bs front None s = omega arith
 front-within bs front (Some bytes) s = omega arith
+
+-- how many more pieces there can be: it falls with each that is split off
+abbrev pub piecesLeft : Option (RefT (List ℕ)) → ℕ
+piecesLeft None = 0
+piecesLeft (Some bytes) = length (bytes .now) + 1
+
+pub pieces-fall : (bs front : List ℕ) (more : Option (RefT (List ℕ))) → Shorter bs front more → piecesLeft more < length bs + 1
+pieces-fall bs front None s = omega arith
+pieces-fall bs front (Some bytes) s = omega arith
+
+pub length-falls : (bs front : List ℕ) (more : Option (RefT (List ℕ))) → Shorter bs front more → length front + lengthOf more ≤ length bs
+length-falls bs front None s = omega arith
+length-falls bs front (Some bytes) s = omega arith

@@ -5,4 +5,5 @@ pub mod Numbers
 pub mod Orders
 pub mod Pieces
 pub mod Rows
+pub mod Spaced
 pub mod Texts

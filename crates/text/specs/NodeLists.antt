@@ -12,6 +12,7 @@ use Rattle.std.specs.declared.option.Option.the-variants.{Some, None}
 use Rattle.text.specs.declared.nodes.NodeList.{NodeList}
 use Rattle.text.specs.Numbers.{numberIn}
 use Rattle.text.specs.Pieces.{parted}
+use Rattle.text.specs.Spaced.{spaced}
 
 abbrev pub headed : Option ℕ → Option (List ℕ) → Option (List ℕ)
 headed (Some v) (Some vs) = Some (v ∷ vs)
@@ -36,3 +37,7 @@ padded (suc n) (v ∷ vs) = v ∷ padded n vs
 abbrev pub kept : Option (List ℕ) → Option NodeList
 kept None = None
 kept (Some vs) = Some (record { nodes = padded 8 vs; len = length vs })
+
+-- the list of nodes up to 65535 whose text the bytes are, or that there is none
+abbrev pub Listed : List ℕ → Option (List ℕ) → Type 0
+Listed bs r = BySome r ((vs : List ℕ) → All (λ v. v ≤ 65535) vs → bs ≡ spaced vs → ⊥) (λ vs. All (λ v. v ≤ 65535) vs × (bs ≡ spaced vs))

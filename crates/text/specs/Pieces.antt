@@ -1,11 +1,12 @@
 -- The parts of a text between separators, and the lines of a sheet.
 use mathlib.Core.Path.{_≡_}
 use mathlib.Core.Bool.{Bool, true, false, cond}
-use mathlib.Core.List.{List, [], _∷_}
+use mathlib.Core.List.{List, [], _∷_, _++_}
 use Prim.Native.Nat.{ℕ, _+_}
 use lib.Dec.{eqb}
 use lib.ListN.{length}
 use denote.Ref.{RefT}
+use Rattle.std.specs.Joined.{joined}
 use Rattle.std.specs.declared.option.Option.{Option}
 use Rattle.std.specs.declared.option.Option.the-variants.{Some, None}
 
@@ -28,6 +29,11 @@ piece sep (b ∷ bs) = cond (eqb b sep) [] (b ∷ piece sep bs)
 abbrev pub parted : ℕ → List ℕ → List (List ℕ)
 parted sep [] = []
 parted sep (b ∷ bs) = pieces sep (b ∷ bs)
+
+-- pieces put together again
+abbrev pub glued : ℕ → List (List ℕ) → List ℕ
+glued sep [] = []
+glued sep (p ∷ ps) = p ++ joined (λ q. sep ∷ q) ps
 
 -- the lines, each without the byte 10 that ends it; the last may lack one
 abbrev pub linesOf : List ℕ → List (List ℕ)

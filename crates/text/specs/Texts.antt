@@ -1,11 +1,9 @@
--- What a writer has written, and the texts that it writes.
+-- What a writer has written.
 use mathlib.Core.Path.{_≡_}
-use mathlib.Core.List.{List, [], _∷_, _++_}
-use Prim.Native.Nat.{ℕ, _+_}
+use mathlib.Core.List.{List, _++_}
+use Prim.Native.Nat.{ℕ}
 use lib.ListN.{length, take, drop}
 use denote.Ref.{name}
-use Rattle.std.specs.Joined.{joined}
-use Rattle.std.specs.Written.{decimal}
 use Rattle.text.specs.declared.writer.Writer.{Writer}
 
 -- the text so far, and the bytes past it
@@ -24,11 +22,6 @@ pub record Wrote (was is : Writer) (bytes : List ℕ) : Type 0 where
   pub back : past is ≡ drop (length bytes) (past was)
   pub same : room is ≡ room was
   pub lent : name (is .buffer) ≡ name (was .buffer)
-
--- numbers with single spaces between
-abbrev pub spaced : List ℕ → List ℕ
-spaced [] = []
-spaced (v ∷ vs) = decimal v ++ joined (λ u. 32 ∷ decimal u) vs
 
 -- a buffer with a text at its front
 abbrev pub whole : List ℕ → List ℕ → List ℕ

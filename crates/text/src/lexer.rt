@@ -8,6 +8,7 @@ use crate::place::Place;
 use crate::lines::Line;
 use crate::split::front;
 use crate::split::split_first;
+use crate::split::unless_empty;
 use crate::token::Lexer;
 use crate::token::Token;
 
@@ -19,11 +20,7 @@ impl<'a> Lexer<'a> {
         ensures end { λ r. ⌜ endOf r ≡ 1 + length (take 65536 (now (line .entry .bytes))) ⌝ }
     {
         let place = Place { line: line.number, column: 1 };
-        let bytes = front(line.bytes);
-        if bytes.is_empty() {
-            return Lexer { left: None, place };
-        }
-        Lexer { left: Some(bytes), place }
+        Lexer { left: unless_empty(front(line.bytes)), place }
     }
 
     /// The next token: a field, or once there is none the line's end.

@@ -4,9 +4,10 @@ ghost use mathlib.Core.Path.{_≡_};
 ghost use mathlib.Core.List.{List, [], _∷_, _++_};
 ghost use Prim.Native.Nat.{ℕ, _+_, _<_, _^_};
 ghost use lib.ListN.{length};
-ghost use Rattle.text.specs.NodeLists.{nodeList, kept, padded};
+ghost use Rattle.text.specs.NodeLists.{nodeList, kept, padded, Listed};
 use crate::number::number;
 use crate::split::split_first;
+use crate::split::unless_empty;
 
 /// How many nodes of a list are kept.
 pub const KEPT: usize = 8;
@@ -38,22 +39,18 @@ impl NodeList {
 
 /// The list whose text the bytes are, if they are one's.
 pub fn node_list(bytes: &[u8]) -> Option<NodeList>
-    ensures { λ r. ⌜ r ≡ kept (nodeList (now (bytes .entry))) ⌝ }
+    ensures value { λ r. ⌜ r ≡ kept (nodeList (now (bytes .entry))) ⌝ }
+    ensures exact { λ _. ⌜ Listed (now (bytes .entry)) (nodeList (now (bytes .entry))) ⌝ }
 {
     let mut list = NodeList { nodes: [0; KEPT], len: 0 };
-    if bytes.is_empty() {
-        return Some(list);
+    let mut left = unless_empty(bytes);
+    while let Some(text) = left {
+        let (word, more) = split_first(text, b' ');
+        let Some(node) = number(word, HIGHEST) else {
+            return None;
+        };
+        list.keep(node as u16);
+        left = more;
     }
-    let mut left = bytes;
-    loop {
-        let (word, more) = split_first(left, b' ');
-        match number(word, HIGHEST) {
-            Some(node) => list.keep(node as u16),
-            None => return None,
-        }
-        match more {
-            Some(after) => left = after,
-            None => return Some(list),
-        }
-    }
+    Some(list)
 }

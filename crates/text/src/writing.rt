@@ -5,7 +5,8 @@ ghost use lib.ListN.{length};
 ghost use denote.Ref.{name};
 ghost use Rattle.std.specs.Joined.{joined};
 ghost use Rattle.std.specs.Written.{decimal};
-ghost use Rattle.text.specs.Texts.{Wrote, written, spaced};
+ghost use Rattle.text.specs.Spaced.{spaced};
+ghost use Rattle.text.specs.Texts.{Wrote, written};
 use crate::writer::Writer;
 
 impl<'a> Writer<'a> {

@@ -1,46 +1,51 @@
-use mathlib.Core.Path.{_≡_, refl, sym, ap, subst, _∙_}
+use mathlib.Core.Path.{_≡_, sym, ap, _∙_}
 use mathlib.Core.List.{[], _∷_, _++_}
 use native.Mathlib.Omega.{arith}
-use Prim.Native.Nat.{_+_}
-use borrow.Author.Tests.{false-eqb}
+use Prim.Native.Nat.{_<_}
 use lib.ListN.{length}
+use Rattle.std.specs.declared.option.Option.the-variants.{None}
 use Rattle.std.proofs.shelf.Lists.{length-push}
-use Rattle.text.specs.NodeLists.{numbersIn}
-use Rattle.text.specs.Pieces.{rest, Shorter}
-use Rattle.text.proofs.PieceLaws.{parted-some}
-use Rattle.text.proofs.NodeListLaws.{after-nothing, turn-good, kept-whole}
+use Rattle.text.specs.NodeLists.{kept, numbersIn}
+use Rattle.text.specs.Pieces.{rest, lengthOf}
+use Rattle.text.proofs.NodeListExact.{listed}
+use Rattle.text.proofs.NodeListLaws.{after, turn-bad, turn-good, kept-whole}
+use Rattle.text.proofs.NumberLaws.{not-empty}
+use Rattle.text.proofs.PieceLaws.{length-falls}
 use Rattle.text.proofs.nodes.node_list.Needs as need
 
-pub loop-node-holds : need.loop-node-holds
-loop-node-holds c =
-    ([], refl, refl, omega arith, after-nothing _ ∙ ap (numbersIn 65535) (sym (parted-some 32 (c .args .bytes .now) (omega (arith, false-eqb _ 0 (c .if-is-empty .ensures tt))))))
+pub returns-in-rest-number : need.returns-in-rest-number
+returns-in-rest-number c =
+    let i = c .loop-left .inv in
+    let is = ap (rest 32) (c .in-Some .is) ∙ c .split-first .ensures .pieces in
+    record {
+      value = ap kept (sym (turn-bad (i .0) _ (c .split-first .result .0 .now) _ is (c .in-rest-number .ensures tt .value)) ∙ i .4);
+      exact = listed (c .args .bytes .now);
+    }
 
-pub loop-node-again : need.loop-node-again
-loop-node-again c =
-    let i = c .loop-node .inv in
+pub loop-left-again : need.loop-left-again
+loop-left-again c =
+    let i = c .loop-left .inv in
     let vs = i .0 in
-    let node = c .in-Some .node in
+    let node = c .in-Some-number .node in
     let word = c .split-first .result .0 .now in
-    let more = c .in-Some-more .is in
-    let is = c .split-first .ensures .pieces ∙ ap (λ m. word ∷ rest 32 m) more in
-    let shorter = subst (Shorter (c .loop-node .left .now) word) more (c .split-first .ensures .shorter) in
+    let more = c .split-first .result .1 in
+    let is = ap (rest 32) (c .in-Some .is) ∙ c .split-first .ensures .pieces in
+    let number = c .in-Some-number .ensures tt .exact in
+    let some : 0 < length word = not-empty word node (omega (arith, number .0)) (number .1) in
+    let fewer = length-falls (c .in-Some .text .now) word more (c .split-first .ensures .shorter) in
     let longer = length-push vs node in
     (
       vs ++ node ∷ [],
       c .keep .ensures .nodes vs (i .1) (i .2),
       omega (arith, c .keep .ensures .len, i .2, longer),
-      omega (arith, i .3, longer, shorter),
-      sym (turn-good vs _ word _ is node (c .in-Some .ensures tt .value)) ∙ i .4,
+      omega (arith, i .3, ap lengthOf (c .in-Some .is), longer, fewer, some),
+      sym (turn-good vs _ word _ is node (c .in-Some-number .ensures tt .value)) ∙ i .4,
     )
 
-pub returns-in-None-more : need.returns-in-None-more
-returns-in-None-more c =
-    let i = c .loop-node .inv in
-    let vs = i .0 in
-    let node = c .in-Some .node in
-    let word = c .split-first .result .0 .now in
-    let is = c .split-first .ensures .pieces ∙ ap (λ m. word ∷ rest 32 m) (c .in-None-more .is) in
-    kept-whole (c .keep .last .self) (vs ++ node ∷ []) _
-    (c .keep .ensures .nodes vs (i .1) (i .2))
-    (omega (arith, c .keep .ensures .len, i .2, length-push vs node))
-    (sym (turn-good vs _ word _ is node (c .in-Some .ensures tt .value)) ∙ i .4)
+pub returns : need.returns
+returns c =
+    let i = c .loop-left .inv in
+    record {
+      value = kept-whole (c .loop-left .list) (i .0) _ (i .1) (i .2) (sym (ap (λ m. after (i .0) (numbersIn 65535 (rest 32 m))) (c .in-rest .is)) ∙ i .4);
+      exact = listed (c .args .bytes .now);
+    }

@@ -4,7 +4,8 @@ use native.Mathlib.Omega.{arith}
 use lib.ListN.{length}
 use Rattle.std.proofs.shelf.Lists.{nil-from-length}
 use Rattle.std.proofs.shelf.Parts.{first-rest}
-use Rattle.text.specs.Texts.{Wrote, spaced}
+use Rattle.text.specs.Spaced.{spaced}
+use Rattle.text.specs.Texts.{Wrote}
 use Rattle.text.proofs.TextLaws.{wrote-none, wrote-more}
 use Rattle.text.proofs.writer.Writer.put_numbers.Needs as need
 
