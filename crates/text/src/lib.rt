@@ -12,3 +12,6 @@ pub mod split;
 pub mod token;
 pub mod writer;
 pub mod writing;
+
+#[cfg(test)]
+mod tests;
