@@ -16,7 +16,10 @@ impl<'a> Lines<'a> {
         ensures left { λ r. ⌜ leftOf r ≡ linesOf (take 65536 (now (sheet .entry))) ⌝ }
         ensures number { λ r. ⌜ r .number ≡ 1 ⌝ }
     {
-        Lines { left: front(sheet), number: 1 }
+        Lines {
+            left: front(sheet),
+            number: 1,
+        }
     }
 
     /// The next line, if there is one.
@@ -29,7 +32,10 @@ impl<'a> Lines<'a> {
             return None;
         }
         let (bytes, more) = split_first(left, b'\n');
-        *self = Lines { left: more.unwrap_or(b""), number: number + 1 };
+        *self = Lines {
+            left: more.unwrap_or(b""),
+            number: number + 1,
+        };
         Some(Line { bytes, number })
     }
 }

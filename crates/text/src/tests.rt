@@ -33,7 +33,10 @@ fn lines_end_in_byte_10() -> Result<(), Fail> {
 
 // The column of the token after so many others, and how long its field is, or none at the line's end.
 fn token_after(line: &[u8], skipped: u8) -> (u32, Option<usize>) {
-    let mut lexer = Lexer::new(Line { bytes: line, number: 7 });
+    let mut lexer = Lexer::new(Line {
+        bytes: line,
+        number: 7,
+    });
     for _ in 0..skipped {
         let _ = lexer.next_token();
     }
