@@ -7,3 +7,5 @@ pub mod code;
 pub mod lists;
 pub mod node_list;
 pub mod room;
+mod search;
+pub mod seat;
