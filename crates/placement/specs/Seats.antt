@@ -7,7 +7,7 @@ use lib.Dec.{eqb}
 use lib.ListN.{getD, take}
 use Rattle.std.specs.Orderings.{When}
 use Rattle.choices.specs.Sums.{countTo}
-use Rattle.choices.specs.Search.{but, Free, Held, Ready, Complete}
+use Rattle.choices.specs.Search.{but, Free, Held, Ready, Complete, Failed, Blocked}
 use Rattle.placement.specs.declared.seat.Seat.{Seat}
 use Rattle.placement.specs.declared.seat.Seats.{Seats}
 
@@ -57,3 +57,25 @@ pub record Grounded (rack : ℕ → ℕ) (U : ℕ → ℕ → Bool) (N n c : ℕ
 pub record Settled (rack : ℕ → ℕ) (U : ℕ → ℕ → Bool) (n c : ℕ) (at : List Seat) : Type 0 where
   pub complete : Complete n c rack U (nodeAt at)
   pub tells : (k : ℕ) → k < n → rack (nodeAt at k) ≡ rackAt at k
+
+-- The search's outcomes, for any racks and uses that the seats tell of. A seat was found:
+abbrev pub Seated : ℕ → ℕ → List Seats → List Seat → ℕ → ℕ → List Seat → Type 0
+Seated n c seats at x w at′ = (rack : ℕ → ℕ) (U : ℕ → ℕ → Bool) (N : ℕ) → Grounded rack U N n c seats at x w → Settled rack U n c at′
+
+-- none was found, and the set of blocks taken out grew from w to w′
+abbrev pub Unseated : ℕ → ℕ → List Seats → List Seat → ℕ → ℕ → ℕ → Type 0
+Unseated n c seats at x w w′ =
+    (rack : ℕ → ℕ) (U : ℕ → ℕ → Bool) (N : ℕ) → Grounded rack U N n c seats at x w → Failed n N 32 c rack U (nodeAt at) x w w′
+
+-- the seat v is one of block x
+abbrev pub Own : (ℕ → ℕ) → (ℕ → ℕ → Bool) → ℕ → Seat → Type 0
+Own rack U x v = (U x (v .node .0) ≡ true) × (rack (v .node .0) ≡ v .rack .0)
+
+-- the same for one seat v of x
+abbrev pub Freed : ℕ → ℕ → List Seats → List Seat → ℕ → Seat → ℕ → List Seat → Type 0
+Freed n c seats at x v w at′ =
+    (rack : ℕ → ℕ) (U : ℕ → ℕ → Bool) (N : ℕ) → Grounded rack U N n c seats at x w → Own rack U x v → Settled rack U n c at′
+
+abbrev pub Barred : ℕ → ℕ → List Seats → List Seat → ℕ → Seat → ℕ → ℕ → Type 0
+Barred n c seats at x v w w′ =
+    (rack : ℕ → ℕ) (U : ℕ → ℕ → Bool) (N : ℕ) → Grounded rack U N n c seats at x w → Own rack U x v → Blocked n N 32 c rack U (nodeAt at) x (v .node .0) w w′

@@ -11,7 +11,7 @@ ghost use Rattle.std.specs.Orderings.{When};
 ghost use Rattle.std.specs.Results.{Cases};
 ghost use Rattle.site.specs.Words.{member};
 ghost use Rattle.choices.specs.Search.{but, Free, Held, Failed, Blocked, Subset, Crowded, Sized, Partial, unseen};
-ghost use Rattle.placement.specs.Seats.{nodeAt, rackAt, loadOf, Taken, Closed, gives, Sits, Tells, Grounded, Settled};
+ghost use Rattle.placement.specs.Seats.{nodeAt, rackAt, loadOf, Taken, Closed, gives, Seated, Unseated, Freed, Barred};
 use crate::seat::Seat;
 use crate::seat::Seats;
 use site::Node;
@@ -91,4 +91,48 @@ fn may_try(at: &[Seat], seen: u32, x: usize, y: usize, v: Seat, taken: bool) -> 
     ensures no { λ r. ⌜ (r ≡ false → (y ≡ x) ⊎ ((member seen y ≡ true) ⊎ (gives (now (at .entry)) taken y v ≡ false))) ⌝ }
 {
     y != x && !marked(seen, y) && gives_way(at, y, v, taken)
+}
+
+// Gives block x, the only one with no seat, one of its own, and moves others where it must.
+fn place(seats: &[Seats], n: usize, c: u32, at: &mut [Seat], seen: &mut u32, x: usize) -> bool
+    requires { ⌜ n ≤ length (now seats) ⌝ ∗ ⌜ n ≤ length (now at) ⌝ ∗ ⌜ n ≤ 32 ⌝ ∗ ⌜ x < n ⌝ }
+    ensures fewer { λ _. ⌜ unseen n (now (seen .exit)) ≤ unseen n (now (seen .entry)) ⌝ }
+    ensures placed { λ r. ⌜ (r ≡ true → Seated n c (now (seats .entry)) (now (at .entry)) x (now (seen .entry)) (now (at .exit))) ⌝ }
+    ensures failed { λ r. ⌜ (r ≡ false → (now (at .exit) ≡ now (at .entry)) × Unseated n c (now (seats .entry)) (now (at .entry)) x (now (seen .entry)) (now (seen .exit))) ⌝ }
+{
+    let list = seats[x];
+    for i in 0..list.len {
+        let v = list.at[i];
+        let taken = held(at, n, x, v.node);
+        if open(at, n, c, x, v, taken) {
+            at[x] = v;
+            return true;
+        }
+        if displace(seats, n, c, at, seen, x, v, taken) {
+            return true;
+        }
+    }
+    false
+}
+
+// Gives x the seat v, and places the block that gives way, for each block that can.
+fn displace(seats: &[Seats], n: usize, c: u32, at: &mut [Seat], seen: &mut u32, x: usize, v: Seat, taken: bool) -> bool
+    requires { ⌜ n ≤ length (now seats) ⌝ ∗ ⌜ n ≤ length (now at) ⌝ ∗ ⌜ n ≤ 32 ⌝ ∗ ⌜ x < n ⌝ }
+    requires { ⌜ Closed n c (now at) x v taken ⌝ }
+    ensures fewer { λ _. ⌜ unseen n (now (seen .exit)) ≤ unseen n (now (seen .entry)) ⌝ }
+    ensures placed { λ r. ⌜ (r ≡ true → Freed n c (now (seats .entry)) (now (at .entry)) x v (now (seen .entry)) (now (at .exit))) ⌝ }
+    ensures failed { λ r. ⌜ (r ≡ false → (now (at .exit) ≡ now (at .entry)) × Barred n c (now (seats .entry)) (now (at .entry)) x v (now (seen .entry)) (now (seen .exit))) ⌝ }
+{
+    let old = at[x];
+    for y in 0..n {
+        if may_try(at, *seen, x, y, v, taken) {
+            *seen = mark(*seen, y);
+            at[x] = v;
+            if place(seats, n, c, at, seen, y) {
+                return true;
+            }
+            at[x] = old;
+        }
+    }
+    false
 }
