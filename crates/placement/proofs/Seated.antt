@@ -4,6 +4,7 @@ use mathlib.Core.Bool.{Bool, true, false, _&&_}
 use mathlib.Core.Logic.{_⊎_, inl, inr}
 use mathlib.Core.List.{List}
 use Prim.Native.Nat.{ℕ, _+_, _^_, _<_, _≤_}
+use native.Mathlib.Numerals.{add-one}
 use native.Mathlib.Omega.{arith}
 use lib.Bits.{bitOr}
 use lib.Dec.{eqb}
@@ -12,12 +13,14 @@ use Rattle.std.proofs.shelf.Lists.{getD-set-same, getD-set-other, set-set, set-
 use Rattle.std.proofs.shelf.Tests.{cases-eq, eqb-true, eqb-false, eq-eqb}
 use Rattle.site.specs.Words.{member}
 use Rattle.choices.specs.Sums.{countTo}
-use Rattle.choices.specs.Search.{but, Free, Moved, Open, Shut, Way, inRack, Grown, Failed, Blocked, Trying, Passing}
+use Rattle.choices.specs.Search.{but, Free, Moved, Open, Shut, Way, inRack, Sized, Complete, Grown, Failed, Blocked, Trying, Passing}
 use Rattle.choices.proofs.Finite.{count-same}
+use Rattle.choices.proofs.Moves.{partial-next, complete-front}
+use Rattle.choices.proofs.Sets.{uncrowded}
 use Rattle.choices.proofs.Steps as steps
 use Rattle.placement.specs.declared.seat.Seat.{Seat}
 use Rattle.placement.specs.declared.seat.Seats.{Seats}
-use Rattle.placement.specs.Seats.{nodeAt, rackAt, loadOf, Closed, gives, Tells, Own, Grounded, Settled}
+use Rattle.placement.specs.Seats.{nodeAt, rackAt, loadOf, Closed, gives, Tells, Own, Sits, Grounded, Settled, Placing, Crowding, Refusing}
 
 abbrev none : Seat
 none = record { node = record { 0 = 0 }; rack = record { 0 = 0 } }
@@ -134,3 +137,52 @@ module _ (rack : ℕ → ℕ) (U : ℕ → ℕ → Bool) (N n c : ℕ) (seats : 
   passed w i t h =
       steps.passing-all n N 32 c rack U (nodeAt at) x (nodeAt (q .at)) w₀ w i t
       (λ v u. let k = g .sits .listed x q l is v u in (k .0, omega (arith, k .1), k .2))
+
+-- a search from x alone
+module _ (rack : ℕ → ℕ) (U : ℕ → ℕ → Bool) (N n c : ℕ) (seats : List Seats) (at : List Seat) (x : ℕ) (p : Placing rack U N n c seats at x) (m : ℕ)
+    (e : m ≡ bitOr 0 (2 ^ x)) where
+  pub first : Grounded rack U N n c seats at x m
+  first = record { sits = p .sits; tells = p .tells; ready = steps.ready-first n N 32 c rack U (nodeAt at) x m (p .sized) (p .partial) e }
+
+  pub found : (w : ℕ) → Failed n N 32 c rack U (nodeAt at) x m w → Crowding rack U N n c w
+  found w f = record {
+      within = steps.found-within n N 32 c rack U (nodeAt at) x m w (first .ready) e f;
+      crowded = steps.found-crowded n N 32 c rack U (nodeAt at) x m w (first .ready) e f;
+      least = steps.found-least n N 32 c rack U (nodeAt at) x m w (first .ready) e f
+    }
+
+-- one block more
+module _ (rack : ℕ → ℕ) (U : ℕ → ℕ → Bool) (N n c : ℕ) (seats : List Seats) (sized : Sized N 32 rack U) (sits : Sits rack U n seats) where
+  pub sits-front : (m : ℕ) → m ≤ n → Sits rack U m seats
+  sits-front m l = record {
+      usable = λ i q h. sits .usable i q (omega arith); racked = λ i q h. sits .racked i q (omega arith); listed = λ i q h. sits .listed i q (omega arith)
+    }
+
+  pub none-sits : (at : List Seat) → Settled rack U 0 c at
+  unfolding countTo
+  none-sits at = record {
+      complete = record { usable = λ i l. absurd (omega arith); distinct = λ i j l. absurd (omega arith); spread = λ r. omega arith };
+      tells = λ k l. absurd (omega arith)
+    }
+
+  pub one-more : (at : List Seat) (m : ℕ) → m < n → Settled rack U m c at → Placing rack U N (m + 1) c seats at m
+  one-more at m l h = record {
+      sized = sized;
+      sits = sits-front (m + 1) (omega arith);
+      tells = λ k j ne. h .tells k (omega arith);
+      partial = rw add-one (partial-next m c rack U (nodeAt at) (h .complete))
+    }
+
+  pub refused : (m w : ℕ) → m < n → Crowding rack U N (m + 1) c w → Refusing rack U N n c w
+  refused m w l h = record {
+      none = λ a p. against n a (omega arith) p;
+      last = λ k e a p.
+        elim (cases-eq k m) [
+          inl q ↦ subst (λ j. Crowding rack U N j c w) (ap (λ j. j + 1) (sym q) ∙ sym e) h
+        | inr q ↦ absurd (against k a (omega arith) p)
+        ]
+    }
+    where
+      against : (k : ℕ) (a : ℕ → ℕ) → m + 1 ≤ k → Complete k c rack U a → ⊥
+      against k a g p =
+          omega (arith, h .crowded, uncrowded (m + 1) N 32 c rack U sized a (complete-front (m + 1) k c rack U a g p) (member w))

@@ -2,12 +2,13 @@
 use mathlib.Core.Path.{_≡_}
 use mathlib.Core.Bool.{Bool, true, cond, _&&_}
 use mathlib.Core.List.{List, map}
-use Prim.Native.Nat.{ℕ, _<_, _≤_}
+use Prim.Native.Nat.{ℕ, _+_, _^_, _<_, _≤_}
 use lib.Dec.{eqb}
 use lib.ListN.{getD, take}
 use Rattle.std.specs.Orderings.{When}
 use Rattle.choices.specs.Sums.{countTo}
-use Rattle.choices.specs.Search.{but, Free, Held, Ready, Complete, Failed, Blocked}
+use Rattle.site.specs.Words.{member}
+use Rattle.choices.specs.Search.{but, Free, Held, Sized, Partial, Ready, Complete, Crowded, Subset, Failed, Blocked}
 use Rattle.placement.specs.declared.seat.Seat.{Seat}
 use Rattle.placement.specs.declared.seat.Seats.{Seats}
 
@@ -79,3 +80,21 @@ Freed n c seats at x v w at′ =
 abbrev pub Barred : ℕ → ℕ → List Seats → List Seat → ℕ → Seat → ℕ → ℕ → Type 0
 Barred n c seats at x v w w′ =
     (rack : ℕ → ℕ) (U : ℕ → ℕ → Bool) (N : ℕ) → Grounded rack U N n c seats at x w → Own rack U x v → Blocked n N 32 c rack U (nodeAt at) x (v .node .0) w w′
+
+-- every block but x sits, for racks and uses that the seats tell of
+pub record Placing (rack : ℕ → ℕ) (U : ℕ → ℕ → Bool) (N n c : ℕ) (seats : List Seats) (at : List Seat) (x : ℕ) : Type 0 where
+  pub sized : Sized N 32 rack U
+  pub sits : Sits rack U n seats
+  pub tells : Tells rack n at x
+  pub partial : Partial n c rack U (nodeAt at) x
+
+-- w is the least crowded set of the first n blocks
+pub record Crowding (rack : ℕ → ℕ) (U : ℕ → ℕ → Bool) (N n c w : ℕ) : Type 0 where
+  pub within : w < 2 ^ n
+  pub crowded : Crowded n N 32 c rack U (member w)
+  pub least : (T : ℕ → Bool) → Crowded n N 32 c rack U T → Subset w T
+
+-- the first n blocks cannot all sit; and where those before the last can, w is their least crowded set
+pub record Refusing (rack : ℕ → ℕ) (U : ℕ → ℕ → Bool) (N n c w : ℕ) : Type 0 where
+  pub none : (a : ℕ → ℕ) → Complete n c rack U a → ⊥
+  pub last : (m : ℕ) → n ≡ m + 1 → (a : ℕ → ℕ) → Complete m c rack U a → Crowding rack U N n c w

@@ -10,8 +10,8 @@ ghost use lib.ListN.{length, getD, set};
 ghost use Rattle.std.specs.Orderings.{When};
 ghost use Rattle.std.specs.Results.{Cases};
 ghost use Rattle.site.specs.Words.{member};
-ghost use Rattle.choices.specs.Search.{but, Free, Held, Failed, Blocked, Subset, Crowded, Sized, Partial, unseen};
-ghost use Rattle.placement.specs.Seats.{nodeAt, rackAt, loadOf, Taken, Closed, gives, Seated, Unseated, Freed, Barred};
+ghost use Rattle.choices.specs.Search.{but, Free, Sized, unseen};
+ghost use Rattle.placement.specs.Seats.{nodeAt, rackAt, loadOf, Taken, Closed, gives, Sits, Settled, Seated, Unseated, Freed, Barred, Placing, Crowding, Refusing};
 use crate::seat::Seat;
 use crate::seat::Seats;
 use site::Node;
@@ -135,4 +135,34 @@ fn displace(seats: &[Seats], n: usize, c: u32, at: &mut [Seat], seen: &mut u32, 
         }
     }
     false
+}
+
+/// Gives block x, the only one with no seat, one of its own; or gives the least tight set, and leaves all as they sit.
+pub(crate) fn extend(seats: &[Seats], n: usize, c: u32, at: &mut [Seat], x: usize) -> Result<(), u32>
+    requires { ⌜ n ≤ length (now seats) ⌝ ∗ ⌜ n ≤ length (now at) ⌝ ∗ ⌜ n ≤ 32 ⌝ ∗ ⌜ x < n ⌝ }
+    ensures { λ r. ⌜ Cases r
+        (λ _. (rack : ℕ → ℕ) (U : ℕ → ℕ → Bool) (N : ℕ) → Placing rack U N n c (now (seats .entry)) (now (at .entry)) x → Settled rack U n c (now (at .exit)))
+        (λ w. (now (at .exit) ≡ now (at .entry)) × ((rack : ℕ → ℕ) (U : ℕ → ℕ → Bool) (N : ℕ) → Placing rack U N n c (now (seats .entry)) (now (at .entry)) x → Crowding rack U N n c w)) ⌝ }
+{
+    let mut seen = mark(0, x);
+    if place(seats, n, c, at, &mut seen, x) {
+        Ok(())
+    } else {
+        Err(seen)
+    }
+}
+
+/// Gives each of the first n blocks a seat; or gives the least tight set of the first of them that cannot all sit.
+pub(crate) fn seat_all(seats: &[Seats], n: usize, c: u32, at: &mut [Seat]) -> Result<(), u32>
+    requires { ⌜ n ≤ length (now seats) ⌝ ∗ ⌜ n ≤ length (now at) ⌝ ∗ ⌜ n ≤ 32 ⌝ }
+    ensures { λ r. ⌜ Cases r
+        (λ _. (rack : ℕ → ℕ) (U : ℕ → ℕ → Bool) (N : ℕ) → Sized N 32 rack U → Sits rack U n (now (seats .entry)) → Settled rack U n c (now (at .exit)))
+        (λ w. (rack : ℕ → ℕ) (U : ℕ → ℕ → Bool) (N : ℕ) → Sized N 32 rack U → Sits rack U n (now (seats .entry)) → Refusing rack U N n c w) ⌝ }
+{
+    for m in 0..n {
+        if let Err(w) = extend(seats, m + 1, c, at, m) {
+            return Err(w);
+        }
+    }
+    Ok(())
 }
