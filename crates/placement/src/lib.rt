@@ -7,5 +7,6 @@ pub mod code;
 pub mod lists;
 pub mod node_list;
 pub mod room;
+mod resolve;
 mod search;
 pub mod seat;
