@@ -4,3 +4,4 @@ pub mod Asked
 pub mod Rooms
 pub mod Seated
 pub mod Resolves
+pub mod Admits
