@@ -5,3 +5,4 @@ pub mod Rooms
 pub mod Seated
 pub mod Resolves
 pub mod Admits
+pub mod Narrowed

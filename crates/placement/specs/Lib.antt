@@ -4,3 +4,4 @@ pub mod Lists
 pub mod Rooms
 pub mod Seats
 pub mod Resolved
+pub mod Firsts

@@ -5,6 +5,7 @@ pub mod block;
 pub mod block_list;
 pub mod blocks;
 pub mod code;
+pub mod first;
 pub mod lists;
 pub mod node_list;
 pub mod room;

@@ -21,6 +21,13 @@ impl Seats {
         Seats { at: [Seat { node: Node(0), rack: Rack(0) }; 8], len: 0 }
     }
 
+    /// One seat alone.
+    pub(crate) fn one(v: Seat) -> Seats
+        ensures { λ r. ⌜ seatsOf r ≡ v ∷ [] ⌝ }
+    {
+        Seats { at: [v; 8], len: 1 }
+    }
+
     fn push(&mut self, v: Seat)
         requires { ⌜ now self .len < 8 ⌝ }
         ensures { λ _. ⌜ seatsOf (now (self .exit)) ≡ seatsOf (now (self .entry)) ++ v ∷ [] ⌝ ∗ ⌜ now (self .exit) .len ≡ now (self .entry) .len + 1 ⌝ }
