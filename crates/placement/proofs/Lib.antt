@@ -2,3 +2,4 @@ pub mod Fronts
 pub mod Same
 pub mod Asked
 pub mod Rooms
+pub mod Visits

@@ -2,3 +2,4 @@ pub mod Codes
 pub mod Blocks
 pub mod Lists
 pub mod Rooms
+pub mod Plans

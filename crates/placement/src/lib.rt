@@ -6,4 +6,5 @@ pub mod blocks;
 pub mod code;
 pub mod lists;
 pub mod node_list;
+pub mod parity;
 pub mod room;
