@@ -6,3 +6,4 @@ pub mod Seated
 pub mod Resolves
 pub mod Admits
 pub mod Narrowed
+pub mod Visits

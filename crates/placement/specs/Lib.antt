@@ -5,3 +5,4 @@ pub mod Rooms
 pub mod Seats
 pub mod Resolved
 pub mod Firsts
+pub mod Plans

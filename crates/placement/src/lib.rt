@@ -8,6 +8,7 @@ pub mod code;
 pub mod first;
 pub mod lists;
 pub mod node_list;
+pub mod parity;
 pub mod room;
 mod resolve;
 mod search;
