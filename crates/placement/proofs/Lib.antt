@@ -3,3 +3,4 @@ pub mod Same
 pub mod Asked
 pub mod Rooms
 pub mod Visits
+pub mod Resolved

@@ -3,3 +3,4 @@ pub mod Blocks
 pub mod Lists
 pub mod Rooms
 pub mod Plans
+pub mod Seats

@@ -8,3 +8,5 @@ pub mod lists;
 pub mod node_list;
 pub mod parity;
 pub mod room;
+pub mod seat;
+pub mod seats;
