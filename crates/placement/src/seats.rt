@@ -28,7 +28,7 @@ impl Seats {
     pub fn len(&self) -> usize
         ensures { λ r. ⌜ r ≡ length (seatsOf (now (self .entry))) ⌝ }
     {
-        self.len
+        self.as_slice().len()
     }
 
     pub fn as_slice(&self) -> &[Seat]
