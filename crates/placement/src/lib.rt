@@ -14,3 +14,6 @@ mod resolve;
 pub mod room;
 mod search;
 pub mod seat;
+
+#[cfg(test)]
+mod tests;
