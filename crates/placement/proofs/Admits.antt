@@ -20,10 +20,10 @@ use Rattle.choices.proofs.Head.{empty-none, none-empty}
 use Rattle.choices.proofs.Moves.{placed-same}
 use Rattle.choices.proofs.Seats.{seat-choice, seat-choice-from, seat-least-from}
 use Rattle.choices.proofs.Sites.{sized, choice-by, complete-of, least-of, usable-front}
-use Rattle.placement.specs.declared.block.Block.{Block}
+use Rattle.blocks.specs.declared.block.Block.{Block}
 use Rattle.placement.specs.declared.seat.Seat.{Seat}
 use Rattle.placement.specs.declared.seat.Seats.{Seats}
-use Rattle.placement.specs.Blocks.{copiesOf}
+use Rattle.blocks.specs.Blocks.{copiesOf}
 use Rattle.placement.specs.Seats.{seatsOf, nodeAt, Sits, Settled, Crowding, Refusing}
 use Rattle.placement.specs.Resolved.{listsIn, seated, Resolved, Crowded-out}
 use Rattle.placement.proofs.Resolves.{seating, sits-of, resolved-push}

@@ -28,7 +28,7 @@ use Rattle.choices.proofs.Sets.{uncrowded}
 use Rattle.choices.proofs.Sites.{sized, choice-by, complete-of}
 use Rattle.placement.specs.declared.seat.Seat.{Seat}
 use Rattle.placement.specs.declared.seat.Seats.{Seats}
-use Rattle.placement.specs.Lists.{Pushed}
+use Rattle.blocks.specs.Lists.{Pushed}
 use Rattle.placement.specs.Seats.{seatsOf, nodeAt, Settled, Placing, Crowding, Sits}
 use Rattle.placement.specs.Resolved.{seatAt, Resolved, Seating}
 use Rattle.placement.specs.Firsts.{placed, Standing, Narrows}

@@ -18,10 +18,10 @@ use Rattle.site.proofs.Fills.{filled-push, length-filled}
 use Rattle.choices.specs.Choice.{Copies, has}
 use Rattle.choices.specs.Hall.{usable}
 use Rattle.choices.proofs.Nodes.{has-place, has-at}
-use Rattle.placement.specs.declared.block.Block.{Block}
+use Rattle.blocks.specs.declared.block.Block.{Block}
 use Rattle.placement.specs.declared.seat.Seat.{Seat}
 use Rattle.placement.specs.declared.seat.Seats.{Seats}
-use Rattle.placement.specs.Blocks.{copiesOf, numbers}
+use Rattle.blocks.specs.Blocks.{copiesOf, numbers}
 use Rattle.placement.specs.Seats.{seatsOf, nodeAt, rackAt, Sits}
 use Rattle.placement.specs.Resolved.{seatAt, seated, listsIn, Resolved, Seating}
 
@@ -50,11 +50,12 @@ resolved-push s bs seats b q i r e l h =
     ∙ filled-push [] 17 i (map (seated s) bs) (seated s b) (length-map bs (seated s) ∙ e) l
     ∙ ap (filled [] 17) (sym (map-push (seated s) bs b))
 
-pub resolve-step : (s : Site) (q : Block) (i : ℕ) → i < q .len → (before after : List Seat) → before ≡ seated s (take i (copiesOf q))
-    → after ≡ before ++ seated s (getD (q .nodes) i (record { 0 = 0 }) .0 ∷ []) → after ≡ seated s (take (i + 1) (copiesOf q))
-resolve-step s q i l before after e f =
-    let m = seated-more s (copiesOf q) i (omega (arith, copies-length q)) in
-    let a = copy-at q i l in cc
+pub resolve-step : (s : Site) (vs : List Node) (b : Copies) → numbers vs ≡ b → (i : ℕ) → i < length vs → (before after : List Seat) → before ≡ seated s (take i b)
+    → after ≡ before ++ seated s (getD vs i (record { 0 = 0 }) .0 ∷ []) → after ≡ seated s (take (i + 1) b)
+resolve-step s vs b n i l before after e f =
+    let k : length b ≡ length vs = ap length (sym n) ∙ length-map vs (λ v. v .0) in
+    let m = seated-more s b i (omega arith) in
+    let a : getD b i 0 ≡ getD vs i (record { 0 = 0 }) .0 = ap (λ z. getD z i 0) (sym n) ∙ getD-map (λ v. v .0) vs i (record { 0 = 0 }) 0 l in cc
 
 pub resolved-step : (s : Site) (bs : List Block) (seats : List Seats) (i : ℕ) (b : Block) (q : Seats) → length bs ≤ 16 → i < length bs → b ≡ getD bs i b
     → seatsOf q ≡ seated s (copiesOf b) → Resolved s (listsIn (take i bs)) seats → Resolved s (listsIn (take (i + 1) bs)) (set seats i q)

@@ -1,10 +1,10 @@
 // The traps of admission and of the first choice.
 use crate::admit::admit;
 use crate::admit::set_size;
-use crate::block::Block;
-use crate::code::Code;
-use crate::lists::Blocks;
-use crate::lists::Nodes;
+use blocks::block::Block;
+use blocks::code::Code;
+use blocks::lists::Blocks;
+use blocks::lists::Nodes;
 use crate::plan::plan;
 use site::Node;
 use site::SiteMap;

@@ -1,7 +1,7 @@
 use native.Mathlib.Omega.{arith}
-use Rattle.placement.specs.Blocks.{copiesOf}
-use Rattle.placement.specs.Lists.{blocksOf, listsOf}
-use Rattle.placement.proofs.Fronts.{length-front}
+use Rattle.blocks.specs.Blocks.{copiesOf}
+use Rattle.blocks.specs.Lists.{blocksOf, listsOf}
+use Rattle.blocks.proofs.Fronts.{length-front}
 use Rattle.placement.proofs.Admits.{offered, listed}
 use Rattle.placement.proofs.admit.admit.Needs as need
 

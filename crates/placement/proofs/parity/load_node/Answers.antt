@@ -6,7 +6,7 @@ use lib.ListN.{length, getD, take}
 use Rattle.std.proofs.shelf.Lists.{map-more, length-map, length-take-le}
 use Rattle.site.specs.declared.Node.{Node}
 use Rattle.site.specs.Site.{Site}
-use Rattle.placement.specs.Blocks.{numbers}
+use Rattle.blocks.specs.Blocks.{numbers}
 use Rattle.placement.specs.Plans.{Loads}
 use Rattle.placement.proofs.Asked.{rack-at, rack-off, racked}
 use Rattle.placement.proofs.Visits.{load-few, load-more, load-pass}

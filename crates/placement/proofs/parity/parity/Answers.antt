@@ -7,10 +7,10 @@ use lib.ListN.{length, take}
 use Rattle.std.specs.Iters.{counting}
 use Rattle.std.proofs.shelf.Lists.{length-map}
 use Rattle.choices.specs.Plan.{parity}
-use Rattle.placement.specs.Lists.{nodesOf}
-use Rattle.placement.specs.declared.lists.Nodes.{Nodes}
+use Rattle.blocks.specs.Lists.{nodesOf}
+use Rattle.blocks.specs.declared.lists.Nodes.{Nodes}
 use Rattle.placement.specs.Plans.{after, Loads}
-use Rattle.placement.proofs.Fronts.{length-front}
+use Rattle.blocks.proofs.Fronts.{length-front}
 use Rattle.placement.proofs.Visits.{after-after}
 use Rattle.placement.proofs.parity.parity.Needs as need
 

@@ -10,8 +10,8 @@ use Rattle.site.specs.Site.{Site}
 use Rattle.choices.specs.Choice.{Copies, choices}
 use Rattle.choices.specs.Plan.{firstOf, parity, round, planned}
 use Rattle.choices.proofs.Head.{empty-or, empty-none, first-choice}
-use Rattle.placement.specs.Blocks.{copiesOf}
-use Rattle.placement.specs.Lists.{blocksOf, listsOf}
+use Rattle.blocks.specs.Blocks.{copiesOf}
+use Rattle.blocks.specs.Lists.{blocksOf, listsOf}
 use Rattle.placement.proofs.plan.plan.Needs as need
 
 -- a first choice has no more nodes than there are blocks
