@@ -88,7 +88,10 @@ pub fn first_choice<M: SiteMap>(map: &M, c: u32, blocks: &Blocks) -> Nodes
 {
     let mut seats = resolve_all(map, blocks.as_slice());
     let n = blocks.len();
-    let mut at = [Seat { node: Node(0), rack: Rack(0) }; 17];
+    let mut at = [Seat {
+        node: Node(0),
+        rack: Rack(0),
+    }; 17];
     match seat_all(&seats, n, c, &mut at) {
         Ok(()) => {
             settle_all(&mut seats, n, c, &mut at);

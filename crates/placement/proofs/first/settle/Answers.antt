@@ -9,13 +9,12 @@ loop-j-holds c = (refl, refl, λ s ds h k l. absurd (omega arith))
 
 pub loop-j-again : need.loop-j-again
 loop-j-again c =
-    let f = c .if-try-seat .ensures tt .no refl in
-    (
+    let f = c .if-try-seat .ensures tt .no refl in (
       f .0 ∙ c .loop-j .inv .0,
       f .1 ∙ c .loop-j .inv .1,
       λ s ds h.
-        vain-more s (c .args .c) ds (c .args .i) (c .loop-j .j) (c .loop-j .inv .2 s ds h)
-        (f .2 s ds (standing-same s _ _ ds _ _ _ _ (c .loop-j .inv .0) (c .loop-j .inv .1) h)),
+          vain-more s (c .args .c) ds (c .args .i) (c .loop-j .j) (c .loop-j .inv .2 s ds h)
+          (f .2 s ds (standing-same s _ _ ds _ _ _ _ (c .loop-j .inv .0) (c .loop-j .inv .1) h)),
     )
 
 pub returns-then-try-seat : need.returns-then-try-seat

@@ -14,7 +14,7 @@ returns-then-at-i c =
     let l : c .args .i < c .args .n = omega (arith, c .pre) in
     record {
       yes = λ _ s ds h m. try-there s _ _ ds _ _ h _ _ l m (c .index-seats-i .result) (c .index-seats-i .is) (c .one .result) (c .one .ensures) (c .if-at-i .taken);
-      no = λ e. absurd (true≢false e)
+      no = λ e. absurd (true≢false e);
     }
 
 pub returns-in-Ok : need.returns-in-Ok
@@ -22,10 +22,10 @@ returns-in-Ok c =
     let l : c .args .i < c .args .n = omega (arith, c .pre) in
     record {
       yes = λ _ s ds h m.
-        try-sat s _ _ ds _ _ h _ _ l m (c .index-seats-i .result) (c .index-seats-i .is) (c .one .result) (c .one .ensures) _
-        (c .in-Ok .ensures tt (rackOf s) (usable s (narrow ds (c .args .i) (c .args .j))) (length s)
+          try-sat s _ _ ds _ _ h _ _ l m (c .index-seats-i .result) (c .index-seats-i .is) (c .one .result) (c .one .ensures) _
+          (c .in-Ok .ensures tt (rackOf s) (usable s (narrow ds (c .args .i) (c .args .j))) (length s)
           (try-placing s _ _ ds _ _ h _ _ l m (c .index-seats-i .result) (c .index-seats-i .is) (c .one .result) (c .one .ensures)));
-      no = λ e. absurd (true≢false e)
+      no = λ e. absurd (true≢false e);
     }
 
 pub returns-in-Err : need.returns-in-Err
@@ -37,8 +37,8 @@ returns-in-Err c =
         given-back _ _ _ _ (c .index-seats-i .is),
         c .in-Err .ensures tt .0,
         λ s ds h m.
-          try-none s _ _ ds _ _ h _ _ l m (c .index-seats-i .result) (c .index-seats-i .is) (c .one .result) (c .one .ensures) _
-          (c .in-Err .ensures tt .1 (rackOf s) (usable s (narrow ds (c .args .i) (c .args .j))) (length s)
+            try-none s _ _ ds _ _ h _ _ l m (c .index-seats-i .result) (c .index-seats-i .is) (c .one .result) (c .one .ensures) _
+            (c .in-Err .ensures tt .1 (rackOf s) (usable s (narrow ds (c .args .i) (c .args .j))) (length s)
             (try-placing s _ _ ds _ _ h _ _ l m (c .index-seats-i .result) (c .index-seats-i .is) (c .one .result) (c .one .ensures))),
-      )
+      );
     }
