@@ -101,8 +101,7 @@ fn may_try(at: &[Seat], seen: u32, x: usize, y: usize, v: Seat, taken: bool) -> 
 fn place(seats: &[Seats], n: usize, c: u32, at: &mut [Seat], seen: &mut u32, x: usize) -> bool
     requires { ⌜ n ≤ length (now seats) ⌝ ∗ ⌜ n ≤ length (now at) ⌝ ∗ ⌜ n ≤ 32 ⌝ ∗ ⌜ x < n ⌝ }
     ensures fewer { λ _. ⌜ unseen n (now (seen .exit)) ≤ unseen n (now (seen .entry)) ⌝ }
-    ensures placed { λ r. ⌜ (r ≡ true → Seated n c (now (seats .entry)) (now (at .entry)) x (now (seen .entry)) (now (at .exit))) ⌝ }
-    ensures failed { λ r. ⌜ (r ≡ false → (now (at .exit) ≡ now (at .entry)) × Unseated n c (now (seats .entry)) (now (at .entry)) x (now (seen .entry)) (now (seen .exit))) ⌝ }
+    ensures found { λ r. ⌜ When r (Seated n c (now (seats .entry)) (now (at .entry)) x (now (seen .entry)) (now (at .exit))) ((now (at .exit) ≡ now (at .entry)) × Unseated n c (now (seats .entry)) (now (at .entry)) x (now (seen .entry)) (now (seen .exit))) ⌝ }
 {
     let list = seats[x];
     for i in 0..list.len {
@@ -133,8 +132,7 @@ fn displace(
     requires { ⌜ n ≤ length (now seats) ⌝ ∗ ⌜ n ≤ length (now at) ⌝ ∗ ⌜ n ≤ 32 ⌝ ∗ ⌜ x < n ⌝ }
     requires { ⌜ Closed n c (now at) x v taken ⌝ }
     ensures fewer { λ _. ⌜ unseen n (now (seen .exit)) ≤ unseen n (now (seen .entry)) ⌝ }
-    ensures placed { λ r. ⌜ (r ≡ true → Freed n c (now (seats .entry)) (now (at .entry)) x v (now (seen .entry)) (now (at .exit))) ⌝ }
-    ensures failed { λ r. ⌜ (r ≡ false → (now (at .exit) ≡ now (at .entry)) × Barred n c (now (seats .entry)) (now (at .entry)) x v (now (seen .entry)) (now (seen .exit))) ⌝ }
+    ensures found { λ r. ⌜ When r (Freed n c (now (seats .entry)) (now (at .entry)) x v (now (seen .entry)) (now (at .exit))) ((now (at .exit) ≡ now (at .entry)) × Barred n c (now (seats .entry)) (now (at .entry)) x v (now (seen .entry)) (now (seen .exit))) ⌝ }
 {
     let old = at[x];
     for y in 0..n {

@@ -4,7 +4,6 @@ use mathlib.Core.List.{List}
 use Prim.Native.Nat.{ℕ, _<_, _≤_}
 use native.Mathlib.Omega.{arith}
 use lib.ListN.{length, set, length-set}
-use Rattle.std.proofs.shelf.Tests.{true≢false, false≢true}
 use Rattle.choices.specs.Search.{unseen}
 use Rattle.choices.proofs.Steps.{marks, passed-on}
 use Rattle.placement.specs.declared.seat.Seat.{Seat}
@@ -35,10 +34,9 @@ displace-returns-then-place t c =
     let long : c .args .x < length (c .loop-y .at) = omega (arith, c .pre .0, ap length (c .loop-y .inv .1)) in
     record {
       fewer = omega (arith, c .if-place .ensures tt .fewer, c .loop-y .inv .0);
-      placed = λ _ rack U N g own.
-          c .if-place .ensures tt .placed refl rack U N
+      found = λ rack U N g own.
+          c .if-place .ensures tt .found rack U N
           (seated.next rack U N _ _ _ _ _ _ g _ (c .loop-y .inv .1) _ own long _ (closed _ _ _ _ _ _ _ (c .loop-y .inv .1) (c .pre .1)) _ (c .loop-y-test .taken) (h .0) (h .2) _ _ (c .mark .ensures));
-      failed = λ e. absurd (true≢false e);
     }
 
 pub displace-loop-y-again : need.displace-loop-y-again
@@ -48,7 +46,7 @@ displace-loop-y-again t c =
       | displace-then-may-try·else-place w ↦
           let h = w .if-may-try .ensures tt .yes refl in
           let f : unseen (c .args .n) (w .mark .result) < unseen (c .args .n) (c .loop-y .seen) = marks _ _ _ _ (c .loop-y-test .taken) (w .mark .ensures) (h .1) in
-          let k = w .if-place .ensures tt .failed refl in (
+          let k = w .if-place .ensures tt .found in (
             rw (w .seen-is) (omega (arith, w .if-place .ensures tt .fewer, c .loop-y .inv .0)),
             w .at-is ∙ seated.restored _ _ _ _ _ (c .loop-y .inv .1) (k .0),
             λ rack U N g own.
@@ -75,8 +73,7 @@ displace-returns t c =
     let long : c .args .x < length (c .loop-y .at) = omega (arith, c .pre .0, ap length (c .loop-y .inv .1)) in
     record {
       fewer = c .loop-y .inv .0;
-      placed = λ e. absurd (false≢true e);
-      failed = λ _. (
+      found = (
         c .loop-y .inv .1,
         λ rack U N g own.
             seated.tried rack U N _ _ _ _ _ _ g _ (c .loop-y .inv .1) _ own long _ (closed _ _ _ _ _ _ _ (c .loop-y .inv .1) (c .pre .1)) _ (c .loop-y .y)
@@ -90,11 +87,10 @@ place-returns-then-open t c =
     let inside : c .args .x < c .args .n = omega (arith, c .pre) in
     record {
       fewer = c .loop-i .inv .0;
-      placed = λ _ rack U N g.
+      found = λ rack U N g.
           seated.opened rack U N _ _ _ _ _ _ g _ (c .loop-i .inv .1) _
           (seated.own-seat rack U N _ _ _ _ _ _ g (c .index-seats-x .result) inside (c .index-seats-x .is) (c .loop-i .i) (c .loop-i-test .taken)) long
           (c .if-open .ensures tt .yes refl);
-      failed = λ e. absurd (true≢false e);
     }
 
 pub place-returns-then-displace : need.place-returns-then-displace
@@ -102,17 +98,16 @@ place-returns-then-displace t c =
     let inside : c .args .x < c .args .n = omega (arith, c .pre) in
     record {
       fewer = omega (arith, c .if-displace .ensures tt .fewer, c .loop-i .inv .0);
-      placed = λ _ rack U N g.
-          c .if-displace .ensures tt .placed refl rack U N
+      found = λ rack U N g.
+          c .if-displace .ensures tt .found rack U N
           (seated.same rack U N _ _ _ _ _ _ g _ (c .loop-i .inv .1) _ (c .loop-i .inv .2 rack U N g .grown))
           (seated.own-seat rack U N _ _ _ _ _ _ g (c .index-seats-x .result) inside (c .index-seats-x .is) (c .loop-i .i) (c .loop-i-test .taken));
-      failed = λ e. absurd (true≢false e);
     }
 
 pub place-loop-i-again : need.place-loop-i-again
 place-loop-i-again t c =
     let inside : c .args .x < c .args .n = omega (arith, c .pre) in
-    let k = c .if-displace .ensures tt .failed refl in (
+    let k = c .if-displace .ensures tt .found in (
       omega (arith, c .if-displace .ensures tt .fewer, c .loop-i .inv .0),
       k .0 ∙ c .loop-i .inv .1,
       λ rack U N g.
@@ -126,8 +121,7 @@ place-returns t c =
     let inside : c .args .x < c .args .n = omega (arith, c .pre) in
     record {
       fewer = c .loop-i .inv .0;
-      placed = λ e. absurd (false≢true e);
-      failed = λ _. (
+      found = (
         c .loop-i .inv .1,
         λ rack U N g. seated.passed rack U N _ _ _ _ _ _ g (c .index-seats-x .result) inside (c .index-seats-x .is) _ (c .loop-i .i) (c .loop-i .inv .2 rack U N g) (c .loop-i-test .left),
       );
