@@ -61,7 +61,7 @@ pub resolved-step : (s : Site) (bs : List Block) (seats : List Seats) (i : ℕ) 
     → seatsOf q ≡ seated s (copiesOf b) → Resolved s (listsIn (take i bs)) seats → Resolved s (listsIn (take (i + 1) bs)) (set seats i q)
 resolved-step s bs seats i b q few l is h r =
     let e : listsIn (take (i + 1) bs) ≡ listsIn (take i bs) ++ copiesOf b ∷ [] =
-      ap listsIn (take-more bs i b l ∙ ap (λ z. take i bs ++ z ∷ []) (sym is)) ∙ map-push copiesOf (take i bs) b in
+    ap listsIn (take-more bs i b l ∙ ap (λ z. take i bs ++ z ∷ []) (sym is)) ∙ map-push copiesOf (take i bs) b in
     rw e (resolved-push s (listsIn (take i bs)) seats (copiesOf b) q i r (length-map (take i bs) copiesOf ∙ length-take-le i bs (omega arith)) (omega arith) h)
 
 -- lists cut down to their yes nodes
@@ -69,9 +69,9 @@ kept-has : (q : ℕ → Bool) (b : List ℕ) (v : ℕ) → has v (kept-by q b) �
 kept-has q [] v h = absurd (false≢true h)
 kept-has q (w ∷ b) v h =
     elim (cases-bool (q w)) [
-      inl t ↦
-        elim (or-cases (eqb v w) (has v (kept-by q b)) (rw t at h)) [ inl e ↦ rw (eqb-true v w e) t | inr e ↦ kept-has q b v e ]
-    | inr t ↦ kept-has q b v (rw t at h)
+      | inl t ↦
+          elim (or-cases (eqb v w) (has v (kept-by q b)) (rw t at h)) [ inl e ↦ rw (eqb-true v w e) t | inr e ↦ kept-has q b v e ]
+      | inr t ↦ kept-has q b v (rw t at h)
     ]
 
 kept-lists : (q : ℕ → Bool) (bs : List Copies) (i v : ℕ) → has v (getD (map (kept-by q) bs) i []) ≡ true → q v ≡ true
@@ -85,8 +85,10 @@ seated-lists s (b ∷ bs) = ap (λ z. seated s b ∷ z) (seated-lists s bs)
 
 pub seating : (s : Site) (bs : List Copies) (seats : List Seats) → length bs ≤ 17 → Resolved s bs seats → Seating s (map (kept-by (keeps s)) bs) seats
 seating s bs seats l r = record {
-    same = r ∙ ap (filled [] 17) (seated-lists s bs); few = rw length-map l; kept = kept-lists (keeps s) bs
-  }
+  same = r ∙ ap (filled [] 17) (seated-lists s bs);
+  few = rw length-map l;
+  kept = kept-lists (keeps s) bs;
+}
 
 module _ (s : Site) (ds : List Copies) (seats : List Seats) (g : Seating s ds seats) where
   pub seats-long : length seats ≡ 17
@@ -113,17 +115,17 @@ seat-at s b q e k l =
 -- the seats tell of the site's racks, and of which nodes are usable
 pub sits-of : (s : Site) (ds : List Copies) (seats : List Seats) → Seating s ds seats → Sits (rackOf s) (usable s ds) (length ds) seats
 sits-of s ds seats g = record {
-    usable = λ i q l is k h.
+  usable = λ i q l is k h.
       let e = seats-at s ds seats g i q l is in
       let m : k < length (getD ds i []) = omega (arith, seats-length s (getD ds i []) q e) in
       let a = has-at (getD ds i []) k m in
       subst (λ z. usable s ds i (z .node .0) ≡ true) (sym (seat-at s (getD ds i []) q e k h))
       (and-from (keeps s (getD (getD ds i []) k 0)) _ (g .kept i _ a) a);
-    racked = λ i q l is k h.
+  racked = λ i q l is k h.
       subst (λ z. rackOf s (z .node .0) ≡ z .rack .0) (sym (seat-at s (getD ds i []) q (seats-at s ds seats g i q l is) k h)) refl;
-    listed = λ i q l is v u.
+  listed = λ i q l is v u.
       let e = seats-at s ds seats g i q l is in
       let p = has-place v (getD ds i []) (and-parts (keeps s v) _ u .1) in
       let h : p .0 < q .len = omega (arith, p .1, seats-length s (getD ds i []) q e) in
-      (p .0, h, ap (λ z. z .node .0) (seat-at s (getD ds i []) q e (p .0) h) ∙ p .2)
-  }
+      (p .0, h, ap (λ z. z .node .0) (seat-at s (getD ds i []) q e (p .0) h) ∙ p .2);
+}

@@ -31,7 +31,10 @@ pub fn admit<M: SiteMap>(map: &M, c: u32, blocks: &Blocks, offered: &Block) -> R
     let mut seats = resolve_all(map, blocks.as_slice());
     let n = blocks.len();
     seats[n] = resolve(map, offered);
-    let mut at = [Seat { node: Node(0), rack: Rack(0) }; 17];
+    let mut at = [Seat {
+        node: Node(0),
+        rack: Rack(0),
+    }; 17];
     seat_all(&seats, n + 1, c, &mut at)
 }
 

@@ -8,6 +8,5 @@ mod resolve;
 pub mod room;
 mod search;
 pub mod seat;
-
 #[cfg(test)]
 mod tests;

@@ -77,7 +77,15 @@ fn visit<M: SiteMap>(map: &M, c: u32, most: usize, plan: &mut Nodes, loads: &mut
 }
 
 // The nodes from `from` on and below `to` visited.
-fn visit_all<M: SiteMap>(map: &M, c: u32, most: usize, plan: &mut Nodes, loads: &mut [u32], from: u16, to: u16)
+fn visit_all<M: SiteMap>(
+    map: &M,
+    c: u32,
+    most: usize,
+    plan: &mut Nodes,
+    loads: &mut [u32],
+    from: u16,
+    to: u16,
+)
     requires { ⌜ Loads (M·SiteMap .meaning (now map)) (nodesOf (now plan)) (now loads) ⌝ }
     requires { ⌜ most ≤ 24 ⌝ }
     ensures plan { λ _. ⌜ nodesOf (now (plan .exit)) ≡ after (M·SiteMap .meaning (now (map .entry))) c most (nodesOf (now (plan .entry))) (counting from (to - from)) ⌝ }

@@ -18,7 +18,13 @@ impl Seats {
     pub(crate) fn new() -> Seats
         ensures { λ r. ⌜ seatsOf r ≡ [] ⌝ ∗ ⌜ r .len ≡ 0 ⌝ }
     {
-        Seats { at: [Seat { node: Node(0), rack: Rack(0) }; 8], len: 0 }
+        Seats {
+            at: [Seat {
+                node: Node(0),
+                rack: Rack(0),
+            }; 8],
+            len: 0,
+        }
     }
 
     /// One seat alone.

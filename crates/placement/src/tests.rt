@@ -62,7 +62,9 @@ fn a_node_keeps_one_block() -> Result<(), Fail> {
     let mut blocks = Blocks::new();
     check_eq(offer(&map, 3, &mut blocks, 0, 1), 0)?;
     check_eq(offer(&map, 3, &mut blocks, 0, 1), 0)?;
-    check_eq(offer(&map, 3, &mut blocks, 0, 1), 7).note("the rack has room for 3, but two nodes only")
+    check_eq(offer(&map, 3, &mut blocks, 0, 1), 7).note(
+        "the rack has room for 3, but two nodes only",
+    )
 }
 
 #[test]

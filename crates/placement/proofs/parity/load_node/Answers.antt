@@ -12,7 +12,6 @@ use Rattle.placement.proofs.Asked.{rack-at, rack-off, racked}
 use Rattle.placement.proofs.Visits.{load-few, load-more, load-pass}
 use Rattle.placement.proofs.parity.load_node.Needs as need
 
-
 on : (s : Site) (vs : List Node) (i : ℕ) (xs : List ℕ) → i < length vs → Loads s (numbers (take i vs) ++ getD vs i (record { 0 = 0 }) .0 ∷ []) xs → Loads s (numbers (take (i + 1) vs)) xs
 on s vs i xs h l = subst (λ t. Loads s t xs) (sym (map-more (λ v. v .0) vs i (record { 0 = 0 }) h)) l
 
