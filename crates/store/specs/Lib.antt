@@ -3,3 +3,5 @@ pub mod Refusals
 pub mod Ledger
 pub mod Answers
 pub mod Promise
+pub mod Table
+pub mod Told

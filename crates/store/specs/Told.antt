@@ -1,0 +1,45 @@
+-- What the contract of each call tells of the store, the result and the caller's rows.
+use mathlib.Core.Path.{_≡_}
+use mathlib.Core.Bool.{true}
+use mathlib.Core.List.{List, [], _∷_, _++_, map}
+use Prim.Native.Nat.{ℕ, _≤_}
+use lib.ListN.{length, drop}
+use Rattle.std.specs.Results.{isErr}
+use Rattle.std.specs.declared.option.Option.the-variants.{Some, None}
+use Rattle.std.specs.declared.result.Result.{Result}
+use Rattle.std.specs.declared.result.Result.the-variants.{Ok, Err}
+use Rattle.site.specs.Site.{Site}
+use Rattle.choices.specs.Choice.{Copies, choices}
+use Rattle.choices.specs.Tight.{LeastTight}
+use Rattle.store.specs.declared.types.Row.{Row}
+use Rattle.store.specs.declared.types.Answer.{Answer}
+use Rattle.store.specs.declared.types.Refusal.{Refusal}
+use Rattle.store.specs.declared.types.Refusal.the-variants.{NoChoice}
+use Rattle.store.specs.declared.store.Store.{Store}
+use Rattle.store.specs.Stripes.{Code, Ledger, Call, offer, blocksOf, stripe, copiesOf, core}
+use Rattle.store.specs.Refusals.{numberOf, refusedBy}
+use Rattle.store.specs.Ledger.{step}
+use Rattle.store.specs.Answers.{shown, accepted, written}
+use Rattle.store.specs.Promise.{together}
+use Rattle.store.specs.Table.{ledgerOf}
+
+-- The exact answer of a call at any ledger at all. The rows are told where the caller has as many as the rules write; at the ledger of
+-- a list of calls, a call that is not refused always has.
+abbrev pub Answering : Site → Ledger → Call → Result Answer Refusal → List Row → List Row → Type 0
+Answering s l call r before after = elim (refusedBy s l call) [
+    Some q ↦ ((e : Refusal) × (r ≡ Err e) × (numberOf e ≡ q)) × (after ≡ before)
+  | None ↦ (r ≡ Ok (accepted s l call))
+    × (length (written s l call) ≤ length before → map shown after ≡ written s l call ++ map shown (drop (length (written s l call)) before)) ]
+
+-- the word of a refused offer is the set that crowds it out, where the stripe's own blocks have a choice
+abbrev pub Named : Site → Ledger → Call → Result Answer Refusal → Type 0
+Named s l call r = (o : Code) (b : ℕ) (vs : Copies) (w : ℕ) → l .code ≡ Some o → call ≡ offer b vs → r ≡ Err (NoChoice w)
+  → (choices s (o .c) (copiesOf (blocksOf (stripe l (core s vs)))) ≡ [] → ⊥) → LeastTight s (o .c) (together s l vs) w
+
+-- a call on the store before, with its result, the store after it, and the caller's rows before and after
+pub record Told {M : Type 0} (s : Site) (before after : Store M) (call : Call) (r : Result Answer Refusal) (old new : List Row) : Type 0 where
+  pub answers : Answering s (ledgerOf before) call r old new
+  pub names : Named s (ledgerOf before) call r
+  pub noted : ledgerOf after ≡ step s (ledgerOf before) call
+  pub kept : after .map ≡ before .map
+  pub refused : isErr r ≡ true → (after ≡ before) × (new ≡ old)
