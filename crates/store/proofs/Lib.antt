@@ -1,3 +1,5 @@
 pub mod Looks
 pub mod Held
 pub mod Tells
+pub mod Written
+pub mod Reading

@@ -1,6 +1,8 @@
 // One store over one map for life: its code, the 32 stripes, the eight calls, and the promise over any list of calls.
 pub mod checks;
 pub mod records;
+pub mod rows;
+pub mod reads;
 pub mod store;
 pub mod stripe;
 pub mod turns;
