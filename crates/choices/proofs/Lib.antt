@@ -1,0 +1,17 @@
+pub mod Finite
+pub mod Words
+pub mod Reach
+pub mod Moves
+pub mod Sets
+pub mod Steps
+pub mod Find
+pub mod Sites
+pub mod Least
+pub mod Nodes
+pub mod Counts
+pub mod Exact
+pub mod Head
+pub mod Narrow
+pub mod Seats
+pub mod Parity
+pub mod Survive

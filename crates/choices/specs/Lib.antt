@@ -3,3 +3,7 @@ pub mod Room
 pub mod Choice
 pub mod Tight
 pub mod Plan
+pub mod Search
+pub mod Hall
+pub mod Order
+pub mod Survive

@@ -1,2 +1,4 @@
 pub mod Fronts
 pub mod Same
+pub mod Asked
+pub mod Rooms

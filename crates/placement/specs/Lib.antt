@@ -1,3 +1,4 @@
 pub mod Codes
 pub mod Blocks
 pub mod Lists
+pub mod Rooms

@@ -6,3 +6,4 @@ pub mod blocks;
 pub mod code;
 pub mod lists;
 pub mod node_list;
+pub mod room;

@@ -57,3 +57,6 @@ pub impl<M: SiteMap> SiteMap for &M as LentSiteMap {
         (**self).node(v)
     }
 }
+
+#[cfg(test)]
+mod tests;

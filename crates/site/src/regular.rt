@@ -24,9 +24,18 @@ pub struct RegularMap {
 #[derive(Clone, Copy, PartialEq, Eq, Debug)]
 pub struct OutsideRegular;
 
+impl OutsideRegular {
+    /// The number by which the refusal is told.
+    pub fn number(&self) -> u32
+        ensures { λ r. ⌜ r ≡ 9 ⌝ }
+    {
+        9
+    }
+}
+
 impl RegularMap {
     pub fn new(racks: u32, each: u32) -> Result<RegularMap, OutsideRegular>
-        ensures { λ r. ⌜ Cases r (λ m. Fit racks each × (m .racks ≡ racks) × (m .each ≡ each)) (λ _. Fit racks each → ⊥) ⌝ }
+        ensures { λ r. ⌜ Cases r (λ m. Fit racks each × (regular (m .racks) (m .each) ≡ regular racks each)) (λ _. Fit racks each → ⊥) ⌝ }
     {
         if racks < 1 || racks > RACKS || each < 1 || each > NODES as u32 {
             return Err(OutsideRegular);

@@ -1,6 +1,7 @@
 // The target map: any other map, with the racks that may keep blocks narrowed to those of a word.
 ghost use mathlib.Core.Path.{_≡_};
-ghost use Prim.Native.Nat.{ℕ, _<_, _≤_};
+ghost use Prim.Native.Nat.{_<_};
+ghost use lib.Bits.{bitAnd};
 ghost use Rattle.site.specs.Words.{member};
 ghost use Rattle.site.specs.Maps.{target, marked};
 ghost use Rattle.site.specs.Limits.{target-limits};
@@ -17,10 +18,28 @@ pub struct TargetMap<M: SiteMap> {
 }
 
 impl<M: SiteMap> TargetMap<M> {
+    /// The racks of `word` are the targets: its bit j, the lowest being 0, is for rack j.
     pub fn new(map: M, word: u32) -> TargetMap<M>
-        ensures { λ r. ⌜ (r .map ≡ map) × (r .word ≡ word) ⌝ }
+        ensures fields { λ r. ⌜ (r .map ≡ map) × (r .word ≡ word) ⌝ }
+        ensures means { λ r. ⌜ target (r .word) (meaning (r .map)) ≡ target word (meaning map) ⌝ }
     {
         TargetMap { map, word }
+    }
+
+    /// All racks are targets: it means what the map below means.
+    pub fn all(map: M) -> TargetMap<M>
+        ensures { λ r. ⌜ target (r .word) (meaning (r .map)) ≡ meaning map ⌝ }
+    {
+        TargetMap { map, word: u32::MAX }
+    }
+
+    /// One map that means what a target map over this one means: the two words are and-ed.
+    pub fn within(self, word: u32) -> TargetMap<M>
+        ensures fields { λ r. ⌜ (r .map ≡ self .map) × (r .word ≡ bitAnd (self .word) word) ⌝ }
+        ensures means { λ r. ⌜ target (r .word) (meaning (r .map)) ≡ target word (target (self .word) (meaning (self .map))) ⌝ }
+    {
+        let TargetMap { map, word: own } = self;
+        TargetMap { map, word: own & word }
     }
 }
 
