@@ -36,3 +36,7 @@ module _ (s : Site) (v : ℕ) (k : Rack) (m : Mark) (e : Some (k, m) ≡ place s
 pub keeps-off : (s : Site) (v : ℕ) → None ≡ place s v → keeps s v ≡ false
 unfolding keepOf
 keeps-off s v e = sym (ap keepOf e)
+
+pub rack-off : (s : Site) (v : ℕ) → None ≡ place s v → rackOf s v ≡ 32
+unfolding rackIn
+rack-off s v e = sym (ap rackIn e)

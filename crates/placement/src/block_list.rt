@@ -22,7 +22,7 @@ impl Blocks {
     pub fn len(&self) -> usize
         ensures { λ r. ⌜ r ≡ length (blocksOf (now (self .entry))) ⌝ }
     {
-        self.len
+        self.as_slice().len()
     }
 
     pub fn as_slice(&self) -> &[Block]

@@ -6,4 +6,7 @@ pub mod blocks;
 pub mod code;
 pub mod lists;
 pub mod node_list;
+pub mod parity;
 pub mod room;
+pub mod seat;
+pub mod seats;
