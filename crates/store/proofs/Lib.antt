@@ -3,3 +3,5 @@ pub mod Held
 pub mod Tells
 pub mod Written
 pub mod Reading
+pub mod Checked
+pub mod Sound

@@ -5,3 +5,4 @@ pub mod Answers
 pub mod Promise
 pub mod Table
 pub mod Told
+pub mod Sound
