@@ -5,3 +5,6 @@ pub mod Written
 pub mod Reading
 pub mod Checked
 pub mod Sound
+pub mod Numbers
+pub mod Plans
+pub mod Kept
