@@ -3,3 +3,4 @@ pub mod Held
 pub mod Tells
 pub mod Written
 pub mod Reading
+pub mod Coded

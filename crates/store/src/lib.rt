@@ -3,6 +3,7 @@ pub mod checks;
 pub mod records;
 pub mod rows;
 pub mod reads;
+pub mod setups;
 pub mod store;
 pub mod stripe;
 pub mod turns;
