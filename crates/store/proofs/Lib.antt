@@ -4,3 +4,4 @@ pub mod Tells
 pub mod Written
 pub mod Reading
 pub mod Coded
+pub mod Sound
