@@ -5,3 +5,4 @@ pub mod Written
 pub mod Reading
 pub mod Coded
 pub mod Sound
+pub mod Keeps
