@@ -116,10 +116,10 @@ module _ (s : Site) (limits : Limits s) (o : Code) (l : Ledger) (c : l .code ≡
       coded s l (offer b vs) o x c (rw (a3, a4, a5, a6, a22, a23) e)
 
   -- the plan of a sealed stripe
-  shut : (r : ℕ) (bs : List Block) (p : List ℕ) → stripe l r ≡ sealed bs p → (length bs ≡ o .k) × BlocksSound s o bs × PlanOf s o bs p
+  pub shut : (r : ℕ) (bs : List Block) (p : List ℕ) → stripe l r ≡ sealed bs p → (length bs ≡ o .k) × BlocksSound s o bs × PlanOf s o bs p
   shut r bs p e = subst (StripeSound s o) e (at r)
 
-  whole : (r : ℕ) (bs : List Block) (p : List ℕ) → stripe l r ≡ sealed bs p → length p ≡ o .n
+  pub whole : (r : ℕ) (bs : List Block) (p : List ℕ) → stripe l r ≡ sealed bs p → length p ≡ o .n
   whole r bs p e =
       let h = shut r bs p e in
       ap length (h .2 .2) ∙ planned-full s (o .n) (o .k) (o .c) (copiesOf bs) (h .2 .0) limits (code .roomy) (omega (arith, code .limits .2)) (length-map bs (λ b. b .copies) ∙ h .0) (h .1 .choice) .0

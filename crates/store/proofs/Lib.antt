@@ -6,3 +6,4 @@ pub mod Reading
 pub mod Coded
 pub mod Sound
 pub mod Keeps
+pub mod History
