@@ -7,3 +7,4 @@ pub mod Coded
 pub mod Sound
 pub mod Keeps
 pub mod History
+pub mod Same
