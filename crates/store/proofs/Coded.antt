@@ -22,6 +22,7 @@ use Rattle.store.specs.declared.store.Store.{Store}
 use Rattle.store.specs.Stripes as led
 use Rattle.store.specs.Refusals.{refusedBy, outside}
 use Rattle.store.specs.Ledger.{step}
+use Rattle.store.specs.Fitted.{fitted}
 use Rattle.store.specs.Told.{Told}
 use Rattle.store.specs.Table.{stripeOf, codeOf, ledgerOf}
 use Rattle.store.proofs.Tells.{uncoded, step-coded, told-refusal, told-done, unnamed-call, ruled}
@@ -64,11 +65,11 @@ module _ {M : Type 0} (s : Site) (st : Store M) (n k c : ℕ) (new : st .code �
       let b = le-ltb (space s c) n h in
       uncoded s (ledgerOf st) (led.set-up n k c) None fresh-none (rw (a, b) refl)
 
-  pub set-up-told : (o : Code) (f : length (st .stripes) ≡ 32) → Within n k c → o .n ≡ n → o .k ≡ k → o .c ≡ c → n ≤ space s c
-      → Told s st (record { map = st .map; code = Some o; stripes = st .stripes; full = f }) (led.set-up n k c) (Ok Done) [] []
-  set-up-told o f w a b d h =
+  pub set-up-told : (o : Code) (f : length (st .stripes) ≡ 32) (q : fitted (Some o) (st .stripes) ≡ true) → Within n k c → o .n ≡ n → o .k ≡ k → o .c ≡ c → n ≤ space s c
+      → Told s st (record { map = st .map; code = Some o; stripes = st .stripes; full = f; within = q }) (led.set-up n k c) (Ok Done) [] []
+  set-up-told o f q w a b d h =
       let none = set-up-none w h in
       let noted : led.Code → led.Ledger = λ x. record { code = Some x; stripes = map stripeOf (st .stripes) } in
       let same : ruled o ≡ record { n = n; k = k; c = c } = ap (λ x. record { n = x; k = o .k; c = o .c }) a ∙ (ap (λ x. record { n = n; k = x; c = o .c }) b ∙ ap (λ x. record { n = n; k = k; c = x }) d) in
-      told-done s st (led.set-up n k c) [] (record { map = st .map; code = Some o; stripes = st .stripes; full = f }) Done [] none refl (λ _. refl)
+      told-done s st (led.set-up n k c) [] (record { map = st .map; code = Some o; stripes = st .stripes; full = f; within = q }) Done [] none refl (λ _. refl)
         (ap noted same ∙ sym (step-coded s (ledgerOf st) (led.set-up n k c) none fresh-none)) refl

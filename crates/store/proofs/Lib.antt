@@ -1,5 +1,6 @@
 pub mod Looks
 pub mod Held
+pub mod Fits
 pub mod Tells
 pub mod Written
 pub mod Reading

@@ -1,5 +1,6 @@
 -- Equal ledgers are equal stores, over equal maps.
 use mathlib.Core.Path.{_≡_, refl, sym, ap, subst, _∙_}
+use mathlib.Core.Bool.{true, Bool-set}
 use mathlib.Core.List.{List, [], _∷_, map}
 use Prim.Native.Nat.{ℕ}
 use native.Mathlib.Nat.{ℕ-set}
@@ -18,6 +19,7 @@ use Rattle.store.specs.declared.stripe.Stripe.{Stripe}
 use Rattle.store.specs.declared.stripe.Stripe.the-variants.{Empty, Filling, Sealed}
 use Rattle.store.specs.declared.store.Store.{Store}
 use Rattle.store.specs.Stripes as led
+use Rattle.store.specs.Fitted.{fitted}
 use Rattle.store.specs.Table.{heldOf, heldsOf, stripeOf, codeOf, ledgerOf}
 use Rattle.store.proofs.Held.{map-map}
 
@@ -48,19 +50,26 @@ same-coded (Some o) (Some u) e =
     let both : _≡_ {A = led.Code} (record { n = o .n; k = o .k; c = o .c }) (record { n = u .n; k = u .k; c = u .c }) = cc in
     ap Some (same-code o u (ap (λ x. x .n) both) (ap (λ x. x .k) both) (ap (λ x. x .c) both))
 
-module _ {M : Type 0} (m : M) (o : Option Code) where
-  full-same : (ss : List Stripe) (f g : length ss ≡ 32) → _≡_ {A = Store M} (record { map = m; code = o; stripes = ss; full = f }) (record { map = m; code = o; stripes = ss; full = g })
-  full-same ss f g = ap (λ (h : length ss ≡ 32). record { map = m; code = o; stripes = ss; full = h }) (ℕ-set _ _ f g)
+-- the facts of a store are one, whichever way they were shown
+abbrev Facts : Option Code → List Stripe → Type 0
+Facts o ss = (length ss ≡ 32) × (fitted o ss ≡ true)
 
-  stripes-same : (ss ts : List Stripe) (e : ss ≡ ts) (f : length ss ≡ 32) (g : length ts ≡ 32) → _≡_ {A = Store M} (record { map = m; code = o; stripes = ss; full = f }) (record { map = m; code = o; stripes = ts; full = g })
-  stripes-same ss ts e f g =
-      let P : List Stripe → Type 0 = λ us. (g : length us ≡ 32) → _≡_ {A = Store M} (record { map = m; code = o; stripes = ss; full = f }) (record { map = m; code = o; stripes = us; full = g }) in
-      subst P e (λ g. full-same ss f g) g
+facts-one : (o : Option Code) (ss : List Stripe) (f g : Facts o ss) → f ≡ g
+facts-one o ss f g =
+    let pair : length ss ≡ 32 → fitted o ss ≡ true → Facts o ss = λ x y. (x, y) in
+    ap (λ x. pair x (f .1)) (ℕ-set _ _ (f .0) (g .0)) ∙ ap (pair (g .0)) (Bool-set _ _ (f .1) (g .1))
+
+abbrev made : {M : Type 0} → M → (o : Option Code) (ss : List Stripe) → Facts o ss → Store M
+made m o ss f = record { map = m; code = o; stripes = ss; full = f .0; within = f .1 }
 
 pub same-store : {M : Type 0} (a b : Store M) → a .map ≡ b .map → ledgerOf a ≡ ledgerOf b → a ≡ b
-same-store a b m e =
+same-store {M} a b m e =
     let o = same-coded (a .code) (b .code) (ap (λ l. l .code) e) in
     let t = map-one stripeOf same-stripe (a .stripes) (b .stripes) (ap (λ l. l .stripes) e) in
-    ap (λ x. record { map = x; code = a .code; stripes = a .stripes; full = a .full }) m
-    ∙ (ap (λ x. record { map = b .map; code = x; stripes = a .stripes; full = a .full }) o
-    ∙ stripes-same (b .map) (b .code) (a .stripes) (b .stripes) t (a .full) (b .full))
+    let fa : Facts (a .code) (a .stripes) = (a .full, a .within) in
+    let P : Option Code → Type 0 = λ c. (f : Facts c (a .stripes)) → made (a .map) (a .code) (a .stripes) fa ≡ made (a .map) c (a .stripes) f in
+    let Q : List Stripe → Type 0 = λ ss. (f : Facts (b .code) ss) → made (a .map) (a .code) (a .stripes) fa ≡ made (a .map) (b .code) ss f in
+    let one : P (a .code) = λ f. ap (made (a .map) (a .code) (a .stripes)) (facts-one (a .code) (a .stripes) fa f) in
+    let two : P (b .code) = subst P o one in
+    let three : Q (b .stripes) = subst Q t two in
+    three (b .full, b .within) ∙ ap (λ x. made x (b .code) (b .stripes) (b .full, b .within)) m
