@@ -2,5 +2,8 @@ pub mod Fronts
 pub mod Same
 pub mod Asked
 pub mod Rooms
+pub mod Seated
+pub mod Resolves
+pub mod Admits
+pub mod Narrowed
 pub mod Visits
-pub mod Resolved

@@ -1,5 +1,5 @@
 -- Two values that say the same are the same.
-use mathlib.Core.Path.{_≡_, refl, sym, ap, ap₂, _∙_}
+use mathlib.Core.Path.{_≡_, refl, sym, ap, _∙_}
 use mathlib.Core.List.{List, [], _∷_, _++_, map}
 use Prim.Native.Nat.{ℕ, zero, suc, _+_, _-_, _<_, _≤_}
 use native.Mathlib.Omega.{arith}
@@ -16,17 +16,8 @@ use Rattle.placement.specs.contracts.lists.Blocks as blocks
 use Rattle.placement.specs.declared.lists.Blocks.{Blocks}
 use Rattle.placement.specs.contracts.lists.Nodes as nodes
 use Rattle.placement.specs.declared.lists.Nodes.{Nodes}
-use Rattle.placement.specs.contracts.seat.Seat as seat
-use Rattle.placement.specs.declared.seat.Seat.{Seat}
-use Rattle.placement.specs.contracts.seat.Seats as seats
-use Rattle.placement.specs.declared.seat.Seats.{Seats}
-use Rattle.placement.specs.Seats.{seatsOf}
 use Rattle.placement.specs.Blocks.{copiesOf, told}
 use Rattle.placement.specs.Lists.{blocksOf, nodesOf}
-
--- a seat as two numbers
-abbrev placed : Seat → ℕ × ℕ
-placed t = (t .node .0, t .rack .0)
 
 -- the front and the blank rest of two lists are the same under f, so the lists are
 module _ {X Y : Type 0} (f : X → Y) where
@@ -82,16 +73,3 @@ same-blocks a b e =
 
 pub same-code : (a b : Code) → a .n ≡ b .n → a .k ≡ b .k → a .c ≡ b .c → a ≡ b
 same-code a b n k c = values-one code.struct code.the-propositions a b cc
-
-same-seat : (a b : Seat) → placed a ≡ placed b → a ≡ b
-same-seat a b e =
-    let n : a .node .0 ≡ b .node .0 = ap (λ t. t .0) e in
-    let r : a .rack .0 ≡ b .rack .0 = ap (λ t. t .1) e in
-    ap₂ (λ (v k : ℕ). record { node = record { 0 = v }; rack = record { 0 = k } }) n r
-
-pub same-seats : (a b : Seats) → seatsOf a ≡ seatsOf b → a ≡ b
-same-seats a b e =
-    let w = whole placed 8 (a .at) (b .at) (a .len) (b .len) (0, 0) (a .full) (b .full) (a .few) (b .few) (a .blank) (b .blank) (ap (map placed) e) in
-    let l : a .len ≡ b .len = w .0 in
-    let ts : a .at ≡ b .at = map-one placed same-seat (a .at) (b .at) (w .1) in
-    values-one seats.struct (seats.the-propositions (seat.the-row .coded)) a b cc

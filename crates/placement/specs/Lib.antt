@@ -2,5 +2,7 @@ pub mod Codes
 pub mod Blocks
 pub mod Lists
 pub mod Rooms
-pub mod Plans
 pub mod Seats
+pub mod Resolved
+pub mod Firsts
+pub mod Plans

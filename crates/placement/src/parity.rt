@@ -1,17 +1,17 @@
 // The parity nodes of a plan: all nodes are visited from the start node on, and each that is marked yes, is not taken and
-// whose rack has fewer than c nodes of the plan is taken, until the plan has n.
+// whose rack has fewer than c nodes of the plan is taken, until the plan has as many as asked.
 ghost use mathlib.Core.Path.{_≡_};
 ghost use mathlib.Core.Bool.{cond};
 ghost use mathlib.Core.List.{[], _∷_, _++_};
-ghost use Prim.Native.Nat.{ℕ, _+_, _-_, _<_, _≤_};
+ghost use Prim.Native.Nat.{ℕ, _+_, _-_, min, _<_, _≤_};
 ghost use lib.ListN.{length, getD, set, take};
 ghost use Rattle.std.specs.Iters.{counting};
-ghost use Rattle.choices.specs.Plan.{round};
+ghost use Rattle.choices.specs.Plan.{round, parity as parityOf};
 ghost use Rattle.placement.specs.Blocks.{numbers};
 ghost use Rattle.placement.specs.Lists.{nodesOf};
 ghost use Rattle.placement.specs.Plans.{after, Loads, opens};
-use crate::code::Code;
 use crate::lists::Nodes;
+use crate::lists::PLANNED;
 use site::Mark;
 use site::Node;
 use site::Rack;
@@ -58,17 +58,18 @@ fn take_open(plan: &mut Nodes, loads: &mut [u32], c: u32, rack: Rack, v: Node)
 }
 
 // One more node visited.
-fn visit<M: SiteMap>(map: &M, code: Code, plan: &mut Nodes, loads: &mut [u32], v: Node)
+fn visit<M: SiteMap>(map: &M, c: u32, most: usize, plan: &mut Nodes, loads: &mut [u32], v: Node)
     requires { ⌜ Loads (M·SiteMap .meaning (now map)) (nodesOf (now plan)) (now loads) ⌝ }
-    ensures plan { λ _. ⌜ nodesOf (now (plan .exit)) ≡ after (M·SiteMap .meaning (now (map .entry))) (code .c) (code .n) (nodesOf (now (plan .entry))) (v .0 ∷ []) ⌝ }
+    requires { ⌜ most ≤ 24 ⌝ }
+    ensures plan { λ _. ⌜ nodesOf (now (plan .exit)) ≡ after (M·SiteMap .meaning (now (map .entry))) c most (nodesOf (now (plan .entry))) (v .0 ∷ []) ⌝ }
     ensures loads { λ _. ⌜ Loads (M·SiteMap .meaning (now (map .entry))) (nodesOf (now (plan .exit))) (now (loads .exit)) ⌝ }
 {
-    if plan.len() >= code.n() as usize {
+    if plan.len() >= most {
         return;
     }
     match map.node(v) {
         Some((rack, mark)) => match mark {
-            Mark::Yes => take_open(plan, loads, code.c(), rack, v),
+            Mark::Yes => take_open(plan, loads, c, rack, v),
             Mark::No => {}
         },
         None => {}
@@ -76,21 +77,24 @@ fn visit<M: SiteMap>(map: &M, code: Code, plan: &mut Nodes, loads: &mut [u32], v
 }
 
 // The nodes from `from` on and below `to` visited.
-fn visit_all<M: SiteMap>(map: &M, code: Code, plan: &mut Nodes, loads: &mut [u32], from: u16, to: u16)
+fn visit_all<M: SiteMap>(map: &M, c: u32, most: usize, plan: &mut Nodes, loads: &mut [u32], from: u16, to: u16)
     requires { ⌜ Loads (M·SiteMap .meaning (now map)) (nodesOf (now plan)) (now loads) ⌝ }
-    ensures plan { λ _. ⌜ nodesOf (now (plan .exit)) ≡ after (M·SiteMap .meaning (now (map .entry))) (code .c) (code .n) (nodesOf (now (plan .entry))) (counting from (to - from)) ⌝ }
+    requires { ⌜ most ≤ 24 ⌝ }
+    ensures plan { λ _. ⌜ nodesOf (now (plan .exit)) ≡ after (M·SiteMap .meaning (now (map .entry))) c most (nodesOf (now (plan .entry))) (counting from (to - from)) ⌝ }
     ensures loads { λ _. ⌜ Loads (M·SiteMap .meaning (now (map .entry))) (nodesOf (now (plan .exit))) (now (loads .exit)) ⌝ }
 {
     for v in from..to {
-        visit(map, code, plan, loads, Node(v));
+        visit(map, c, most, plan, loads, Node(v));
     }
 }
 
-/// Adds the parity nodes to a plan, the visit beginning at `start`.
-pub fn parity<M: SiteMap>(map: &M, code: Code, plan: &mut Nodes, start: Node)
-    ensures { λ _. ⌜ nodesOf (now (plan .exit)) ≡ after (M·SiteMap .meaning (now (map .entry))) (code .c) (code .n) (nodesOf (now (plan .entry))) (round (M·SiteMap .meaning (now (map .entry))) (start .0)) ⌝ }
+/// Adds up to `left` parity nodes to a plan, as far as it has room, the visit beginning at `start`.
+pub fn parity<M: SiteMap>(map: &M, c: u32, left: usize, plan: &mut Nodes, start: Node)
+    ensures { λ _. ⌜ nodesOf (now (plan .exit)) ≡ nodesOf (now (plan .entry)) ++ parityOf (M·SiteMap .meaning (now (map .entry))) c (min left (24 - length (nodesOf (now (plan .entry))))) (nodesOf (now (plan .entry))) (round (M·SiteMap .meaning (now (map .entry))) (start .0)) ⌝ }
 {
+    let taken = plan.len();
+    let most = taken + left.min(PLANNED - taken);
     let mut loads = loads_of(map, plan.as_slice());
-    visit_all(map, code, plan, &mut loads, start.0, map.nodes());
-    visit_all(map, code, plan, &mut loads, 0, start.0);
+    visit_all(map, c, most, plan, &mut loads, start.0, map.nodes());
+    visit_all(map, c, most, plan, &mut loads, 0, start.0);
 }

@@ -14,10 +14,8 @@ use Rattle.std.specs.declared.option.Option.{Option}
 use Rattle.std.specs.declared.option.Option.the-variants.{Some, None}
 use Rattle.site.specs.Site.{Site, rackOf}
 use Rattle.choices.specs.Choice.{Copies, apart, every, choices}
-use Rattle.choices.specs.Room.{space}
-use Rattle.placement.specs.Codes.{Within}
 use Rattle.store.specs.Stripes.{Code, Ledger, Call, set-up, offer, seal, plan, deletions, standing, release, abandon, blocksOf, stripe, copiesOf, holds, core, rest}
-use Rattle.store.specs.Refusals.{first, checks, fresh, refusedBy, onMap, outside, none}
+use Rattle.store.specs.Refusals.{first, checks, fresh, refusedBy, onMap, none}
 use Rattle.store.specs.Promise.{WellFormed, Due, together}
 
 pub none-some : {A : Type 0} (x : A) → Some x ≡ None → ⊥
@@ -33,16 +31,6 @@ passed ((false, q) ∷ more) e = (refl, passed more e)
 pub past : (front more : List (Bool × ℕ)) → All (λ c. c .0 ≡ false) front → first (front ++ more) ≡ first more
 past [] more h = refl
 past ((met, q) ∷ front) more h = cond-false met (Some q) (first (front ++ more)) (h .0) ∙ past front more (h .1)
-
--- the code's limits
-pub inside : (n k c : ℕ) → outside n k c ≡ false → Within n k c
-inside n k c e =
-    let a = or-parts (ltb k 1) _ e in
-    let b = or-parts (ltb 16 k) _ (a .1) in
-    let d = or-parts (leb n k) _ (b .1) in
-    let f = or-parts (ltb 24 n) _ (d .1) in
-    let g = or-parts (ltb c 1) _ (f .1) in
-    (ltb-false k 1 (a .0), ltb-false 16 k (b .0), leb-false n k (d .0), ltb-false 24 n (f .0), ltb-false c 1 (g .0), ltb-false (n - k) c (g .1))
 
 -- every node of a list is on the map, and none of the later copies lies in the first's rack
 pub on-map : (s : Site) (vs : List ℕ) → Decides (every (onMap s) vs) (All (λ v. v < length s) vs)

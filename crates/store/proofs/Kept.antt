@@ -29,7 +29,7 @@ use Rattle.store.specs.Ledger.{ledger}
 use Rattle.store.specs.Answers.{Line, shown, planRows, accepted, written, Answered}
 use Rattle.store.specs.Promise.{Due, together, Kept, Promised}
 use Rattle.store.specs.Told.{Answering, Named}
-use Rattle.store.specs.Sound.{Stocked, Sound, Lent}
+use Rattle.store.specs.Sound.{Stocked, Sound, Roomed}
 use Rattle.store.proofs.Checked.{none-some, passed, past, on-map, due-passes}
 use Rattle.store.proofs.Numbers.{crowded-out}
 use Rattle.store.proofs.Sound.{stocked-gathered, stripe-racked, ledger-sound}
@@ -53,7 +53,7 @@ some-list (x ∷ xs) h = refl
 
 module _ (s : Site) (limits : Limits s) (l : Ledger) (sound : Sound s l) where
   -- where a call is accepted, the caller has as many rows as it writes
-  rows-with : (o : Code) (call : Call) (room : ℕ) → l .code ≡ Some o → first (checks s o l call) ≡ None → Lent call room → length (written s l call) ≤ room
+  rows-with : (o : Code) (call : Call) (room : ℕ) → l .code ≡ Some o → first (checks s o l call) ≡ None → Roomed call room → length (written s l call) ≤ room
   rows-with o (set-up n k c) room e m t = omega arith
   rows-with o (offer b vs) room e m t = omega arith
   rows-with o (seal r v) room e m t = omega arith
@@ -79,14 +79,14 @@ module _ (s : Site) (limits : Limits s) (l : Ledger) (sound : Sound s l) where
   rows-without (release r) room m = omega arith
   rows-without (abandon r) room m = omega arith
 
-  pub rows-enough : (call : Call) (room : ℕ) → Lent call room → refusedBy s l call ≡ None → length (written s l call) ≤ room
+  pub rows-enough : (call : Call) (room : ℕ) → Roomed call room → refusedBy s l call ≡ None → length (written s l call) ≤ room
   rows-enough call room t m = by (l .code) refl
     where
       by : (c : Option Code) → l .code ≡ c → length (written s l call) ≤ room
       by None e = rows-without call room (sym (uncoded s l call (first (fresh s call)) e refl) ∙ m)
       by (Some o) e = rows-with o call room e (sym (coded s l call o (first (checks s o l call)) e refl) ∙ m) t
 
-  pub sound-answered : (call : Call) (r : Result Answer Refusal) (before after : List Row) → Lent call (length before) → Answering s l call r before after → Answered s l call r before after
+  pub sound-answered : (call : Call) (r : Result Answer Refusal) (before after : List Row) → Roomed call (length before) → Answering s l call r before after → Answered s l call r before after
   sound-answered call r before after t a = by (refusedBy s l call) refl
     where
       by : (q : Option ℕ) → refusedBy s l call ≡ q → Answered s l call r before after
@@ -170,5 +170,5 @@ module _ (s : Site) (limits : Limits s) (h : List Call) (call : Call) (r : Resul
   pub promised : Named s (ledger s h) call r → Promised s h call r before after
   promised n o c = sound-kept s limits (ledger s h) (ledger-sound s limits h) o c r before after call a n
 
-  pub answered : Lent call (length before) → Answered s (ledger s h) call r before after
+  pub answered : Roomed call (length before) → Answered s (ledger s h) call r before after
   answered t = sound-answered s limits (ledger s h) (ledger-sound s limits h) call r before after t a

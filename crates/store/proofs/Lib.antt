@@ -1,10 +1,14 @@
 pub mod Looks
 pub mod Held
 pub mod Tells
+pub mod Fits
+pub mod Coded
 pub mod Written
 pub mod Reading
+pub mod Same
 pub mod Checked
 pub mod Sound
 pub mod Numbers
 pub mod Plans
 pub mod Kept
+pub mod History

@@ -25,7 +25,8 @@ use Rattle.store.specs.declared.stripe.Stripe.the-variants.{Sealed}
 use Rattle.store.specs.declared.store.Store.{Store}
 use Rattle.store.specs.Stripes as led
 use Rattle.store.specs.Refusals.{refusedBy, onMap}
-use Rattle.store.specs.Answers.{Line, shown, lines, planRows, goneRows, stand}
+use Rattle.choices.specs.Survive.{stand}
+use Rattle.store.specs.Answers.{Line, shown, lines, planRows, goneRows}
 use Rattle.store.specs.Told.{Told}
 use Rattle.store.specs.Table.{heldsOf, stripeOf, ledgerOf}
 use Rattle.store.proofs.Held.{stripe-at}

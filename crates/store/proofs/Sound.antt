@@ -23,7 +23,8 @@ use Rattle.store.specs.Refusals.{first, checks, fresh, refusedBy, onMap, none}
 use Rattle.store.specs.Ledger.{put, noted, codeNoted, step, ledger}
 use Rattle.store.specs.Promise.{WellFormed, Due, together}
 use Rattle.store.specs.Sound.{Fitting, Gathered, Stocked, Sound}
-use Rattle.store.proofs.Checked.{none-some, passed, inside, offer-due}
+use Rattle.store.proofs.Checked.{none-some, passed, offer-due}
+use Rattle.store.proofs.Coded as code
 use Rattle.store.proofs.Tells.{coded, uncoded, step-refused, step-noted, step-coded}
 
 -- the first copy of a well-formed block lies in one of 32 racks
@@ -125,7 +126,7 @@ module _ (s : Site) (limits : Limits s) where
   coded-sound l (set-up n k c) h e m =
       let p = passed (fresh s (set-up n k c)) m in
       let new : Code = record { n = n; k = k; c = c } in
-      let fit : Fitting s new = record { within = inside n k c (p .0); room = ltb-false _ n (p .1 .0) } in
+      let fit : Fitting s new = record { within = code.within n k c (p .0); room = ltb-false _ n (p .1 .0) } in
       record {
         full = h .full;
         unset = λ i. absurd (none-some new i);

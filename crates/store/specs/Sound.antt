@@ -42,13 +42,13 @@ pub record Sound (s : Site) (l : Ledger) : Type 0 where
 abbrev pub Ledger-sound : Type 0
 Ledger-sound = (s : Site) → Limits s → (h : List Call) → Sound s (ledger s h)
 
--- the rows that a call counts are the caller's
-abbrev pub Lent : Call → ℕ → Type 0
-Lent (set-up n k c) room = Unit {0}
-Lent (offer b vs) room = Unit {0}
-Lent (seal r v) room = Unit {0}
-Lent (plan r rows) room = rows ≡ room
-Lent (deletions r rows) room = rows ≡ room
-Lent (standing r vs w) room = Unit {0}
-Lent (release r) room = Unit {0}
-Lent (abandon r) room = Unit {0}
+-- a call with so many rows to write to
+abbrev pub Roomed : Call → ℕ → Type 0
+Roomed (set-up n k c) room = Unit {0}
+Roomed (offer b vs) room = Unit {0}
+Roomed (seal r v) room = Unit {0}
+Roomed (plan r rows) room = rows ≡ room
+Roomed (deletions r rows) room = rows ≡ room
+Roomed (standing r vs w) room = Unit {0}
+Roomed (release r) room = Unit {0}
+Roomed (abandon r) room = Unit {0}

@@ -18,9 +18,9 @@ use Rattle.store.specs.declared.types.Refusal.the-variants.{NoChoice}
 use Rattle.store.specs.declared.store.Store.{Store}
 use Rattle.store.specs.Stripes.{Code, Ledger, Call, offer, blocksOf, stripe, copiesOf, core}
 use Rattle.store.specs.Refusals.{numberOf, refusedBy}
-use Rattle.store.specs.Ledger.{step}
-use Rattle.store.specs.Answers.{shown, accepted, written}
-use Rattle.store.specs.Promise.{together}
+use Rattle.store.specs.Ledger.{step, ledger}
+use Rattle.store.specs.Answers.{shown, accepted, written, Answered}
+use Rattle.store.specs.Promise.{together, Promised}
 use Rattle.store.specs.Table.{ledgerOf}
 
 -- The exact answer of a call at any ledger at all. The rows are told where the caller has as many as the rules write; at the ledger of
@@ -43,3 +43,9 @@ pub record Told {M : Type 0} (s : Site) (before after : Store M) (call : Call) (
   pub noted : ledgerOf after ≡ step s (ledgerOf before) call
   pub kept : after .map ≡ before .map
   pub refused : isErr r ≡ true → (after ≡ before) × (new ≡ old)
+
+-- A call on a store that was made over the site and has had the calls h and nothing else: what it is afterwards, and the whole promise.
+pub record Since (s : Site) (h : List Call) (call : Call) (after : Ledger) (r : Result Answer Refusal) (old new : List Row) : Type 0 where
+  pub ledgered : after ≡ ledger s (h ++ call ∷ [])
+  pub answered : Answered s (ledger s h) call r old new
+  pub promised : Promised s h call r old new

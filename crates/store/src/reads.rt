@@ -8,7 +8,7 @@ ghost use Rattle.site.specs.Words.{member};
 ghost use Rattle.choices.specs.Choice.{has};
 ghost use Rattle.placement.specs.Blocks.{numbers};
 ghost use Rattle.placement.specs.Lists.{nodesOf};
-ghost use Rattle.store.specs.Answers.{stand};
+ghost use Rattle.choices.specs.Survive.{stand};
 ghost use Rattle.store.specs.Stripes.{plan, deletions, standing};
 ghost use Rattle.store.specs.Told.{Told};
 use crate::checks::all_on_map;

@@ -10,7 +10,7 @@ use Rattle.site.specs.Words.{member}
 use Rattle.choices.specs.Choice.{has}
 use Rattle.placement.specs.Blocks.{numbers}
 use Rattle.placement.specs.Lists.{nodesOf}
-use Rattle.store.specs.Answers.{stand}
+use Rattle.choices.specs.Survive.{stand}
 use Rattle.store.proofs.Written.{node-at, count-more, nodes-few, slice-long}
 use Rattle.store.proofs.reads.count_standing.Needs as need
 use Rattle.store.proofs.reads.count_standing.Needs.{then-stands, else-stands}

@@ -3,7 +3,7 @@ use Prim.Native.Nat.{_≤_}
 use lib.ListN.{take}
 use Rattle.placement.specs.Blocks.{numbers}
 use Rattle.placement.specs.Lists.{nodesOf}
-use Rattle.store.specs.Answers.{stand}
+use Rattle.choices.specs.Survive.{stand}
 use Rattle.store.proofs.reads.count_standing.Given as given
 
 abbrev pub Inv-loop-v : given.InvT-loop-v

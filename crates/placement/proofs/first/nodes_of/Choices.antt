@@ -1,0 +1,7 @@
+use mathlib.Core.Path.{_≡_}
+use Rattle.placement.specs.Lists.{nodesOf}
+use Rattle.placement.specs.Firsts.{placed}
+use Rattle.placement.proofs.first.nodes_of.Given as given
+
+abbrev pub Inv-loop-i : given.InvT-loop-i
+Inv-loop-i l = nodesOf (l .nodes) ≡ placed (l .i) (l .at)
