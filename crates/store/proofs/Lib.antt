@@ -12,3 +12,4 @@ pub mod Numbers
 pub mod Plans
 pub mod Kept
 pub mod History
+pub mod Alike

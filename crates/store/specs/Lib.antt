@@ -7,3 +7,4 @@ pub mod Fitted
 pub mod Table
 pub mod Told
 pub mod Sound
+pub mod Runs
