@@ -22,14 +22,14 @@ use Rattle.store.specs.declared.store.Store.{Store}
 use Rattle.store.specs.Stripes.{Code, Ledger, Call, set-up, offer, seal, plan, deletions, standing, release, abandon, stripe, core}
 use Rattle.store.specs.Refusals.{numberOf, first, checks, fresh, refusedBy}
 use Rattle.store.specs.Ledger.{step, ledger}
-use Rattle.store.specs.Answers.{Answered, accepted, written, shown, lines}
+use Rattle.store.specs.Answers.{Answered, accepted, written, shown}
 use Rattle.store.specs.Promise.{together}
 use Rattle.store.specs.Table.{ledgerOf}
-use Rattle.store.specs.Told.{Answering, Named, Told}
-use Rattle.store.specs.Sound.{Sound, Roomed}
+use Rattle.store.specs.Told.{Answering, Named}
+use Rattle.store.specs.Sound.{Sound}
 use Rattle.store.specs.Runs.{Asked, Reply, Ran}
 use Rattle.store.proofs.Tells.{coded, uncoded}
-use Rattle.store.proofs.Numbers.{crowded-out, same-refusal, same-rows}
+use Rattle.store.proofs.Numbers.{same-refusal, same-rows}
 use Rattle.store.proofs.Sound.{stocked-gathered, ledger-sound, ledger-push}
 use Rattle.store.proofs.Kept.{answered}
 

@@ -1,22 +1,21 @@
 -- What an accepted call says of its checks, and which refusal is met where some of them pass.
-use mathlib.Core.Path.{_≡_, refl, sym, ap, _∙_}
-use mathlib.Core.Bool.{Bool, true, false, cond, not, _||_}
+use mathlib.Core.Path.{_≡_, refl, _∙_}
+use mathlib.Core.Bool.{Bool, true, false, not}
 use mathlib.Core.List.{List, [], _∷_, _++_}
-use Prim.Native.Nat.{ℕ, _+_, _-_, _<_, _≤_}
+use Prim.Native.Nat.{ℕ, _<_}
 use native.Mathlib.Omega.{arith}
-use lib.Dec.{eqb, leb, ltb}
+use lib.Dec.{eqb, ltb}
 use lib.ListN.{length, take, drop}
 use Rattle.std.specs.Orderings.{Decides}
 use Rattle.std.specs.shelf.Lists.{All}
-use Rattle.std.proofs.shelf.Tests.{true≢false, ltb-false, leb-false, le-ltb, lt-leb, lt-ltb, or-parts, or-from, not-false, not-from-true, cond-false}
+use Rattle.std.proofs.shelf.Tests.{ltb-false, leb-false, le-ltb, lt-leb, or-parts, or-from, not-false, not-from-true, cond-false}
 use Rattle.std.proofs.shelf.Ways.{decides-by-and, decides-ltb, decides-eqb, decides-not}
-use Rattle.std.specs.declared.option.Option.{Option}
 use Rattle.std.specs.declared.option.Option.the-variants.{Some, None}
 use Rattle.site.specs.Site.{Site, rackOf}
 use Rattle.choices.specs.Choice.{Copies, apart, every, choices}
-use Rattle.store.specs.Stripes.{Code, Ledger, Call, set-up, offer, seal, plan, deletions, standing, release, abandon, blocksOf, stripe, copiesOf, holds, core, rest}
-use Rattle.store.specs.Refusals.{first, checks, fresh, refusedBy, onMap, none}
-use Rattle.store.specs.Promise.{WellFormed, Due, together}
+use Rattle.store.specs.Stripes.{Code, Ledger, offer, blocksOf, stripe, core, rest}
+use Rattle.store.specs.Refusals.{first, checks, onMap, none}
+use Rattle.store.specs.Promise.{Due, together}
 
 pub none-some : {A : Type 0} (x : A) → Some x ≡ None → ⊥
 none-some x e = let z : _≡_ {A = ℕ} 0 1 = cc in omega arith

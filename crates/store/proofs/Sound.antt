@@ -1,13 +1,12 @@
 -- The ledger of any list of calls is sound: a refused call leaves it as it was, and what an accepted call notes has passed its checks.
 use mathlib.Core.Path.{_≡_, refl, sym, ap, subst, _∙_}
-use mathlib.Core.Bool.{Bool, true, false}
+use mathlib.Core.Bool.{false}
 use mathlib.Core.Logic.{inl, inr}
 use mathlib.Core.List.{List, [], _∷_, _++_}
-use Prim.Native.Nat.{ℕ, zero, suc, _+_, _<_, _≤_}
+use Prim.Native.Nat.{ℕ, zero, suc, _<_, _≤_}
 use native.Mathlib.Omega.{arith}
-use lib.Dec.{ltb}
 use lib.ListN.{length, getD, set, replicate}
-use Rattle.std.specs.shelf.Lists.{All, folded}
+use Rattle.std.specs.shelf.Lists.{folded}
 use Rattle.std.proofs.shelf.Elements.{all-push}
 use Rattle.std.proofs.shelf.Lists.{length-set, length-push, map-push, getD-set-same, getD-set-other, getD-past}
 use Rattle.std.proofs.shelf.Sums.{folded-push}
