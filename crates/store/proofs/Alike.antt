@@ -98,7 +98,7 @@ module _ (s : Site) (l : Ledger) (sound : Sound s l) (call : Call) (r t : Result
           let x : ((f : Refusal) × (r ≡ Err f) × (numberOf f ≡ q)) × (new ≡ old) = rw (e, Answered) at a in
           let y : ((f : Refusal) × (t ≡ Err f) × (numberOf f ≡ q)) × (also ≡ old) = rw (e, Answered) at d in
           let same : x .0 .0 ≡ y .0 .0 = same-refusal (x .0 .0) (y .0 .0) (x .0 .2 ∙ sym (y .0 .2)) (λ u w i j.
-            one-word (e ∙ ap Some (sym (x .0 .2) ∙ ap numberOf i)) u w (x .0 .1 ∙ ap Err i) (y .0 .1 ∙ ap Err j) n k) in
+          one-word (e ∙ ap Some (sym (x .0 .2) ∙ ap numberOf i)) u w (x .0 .1 ∙ ap Err i) (y .0 .1 ∙ ap Err j) n k) in
           (x .0 .1 ∙ (ap Err same ∙ sym (y .0 .1)), x .1 ∙ sym (y .1))
 
 pub one-reply : (s : Site) → Limits s → (h : List Call) (call : Call) (r t : Result Answer Refusal) (old new also : List Row)
@@ -119,11 +119,11 @@ module _ {M N : Type 0} (s : Site) (limits : Limits s) where
       let u : Answering s l (x .0) (r .0) (x .1) (r .1) = subst (λ w. Answering s w (x .0) (r .0) (x .1) (r .1)) e (p .1 .answers) in
       let v : Answering s l (x .0) (t .0) (x .1) (t .1) = subst (λ w. Answering s w (x .0) (t .0) (x .1) (t .1)) f (q .1 .answers) in
       let one = one-reply s limits h (x .0) (r .0) (t .0) (x .1) (r .1) (t .1)
-        (answered s limits h (x .0) (r .0) (x .1) (r .1) u (p .2)) (subst (λ w. Named s w (x .0) (r .0)) e (p .1 .names))
-        (answered s limits h (x .0) (t .0) (x .1) (t .1) v (q .2)) (subst (λ w. Named s w (x .0) (t .0)) f (q .1 .names)) in
+      (answered s limits h (x .0) (r .0) (x .1) (r .1) u (p .2)) (subst (λ w. Named s w (x .0) (r .0)) e (p .1 .names))
+      (answered s limits h (x .0) (t .0) (x .1) (t .1) v (q .2)) (subst (λ w. Named s w (x .0) (t .0)) f (q .1 .names)) in
       let next = alike m (p .0) y (q .0) z qs rs ts
-        (p .1 .noted ∙ (ap (λ w. step s w (x .0)) e ∙ sym (ledger-push s h (x .0))))
-        (q .1 .noted ∙ (ap (λ w. step s w (x .0)) f ∙ sym (ledger-push s h (x .0)))) (p .3) (q .3) in
+      (p .1 .noted ∙ (ap (λ w. step s w (x .0)) e ∙ sym (ledger-push s h (x .0))))
+      (q .1 .noted ∙ (ap (λ w. step s w (x .0)) f ∙ sym (ledger-push s h (x .0)))) (p .3) (q .3) in
       let pair : Result Answer Refusal → List Row → Reply = λ i j. (i, j) in
       let first : r ≡ t = ap₂ pair (one .0) (one .1) in
       (ap₂ (λ i j. i ∷ j) first (next .0), next .1)

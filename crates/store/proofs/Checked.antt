@@ -45,28 +45,41 @@ module _ (s : Site) (o : Code) (l : Ledger) (b : ℕ) (vs : Copies) where
   pub offer-due : first (checks s o l (offer b vs)) ≡ None → Due s o l b vs × (none (choices s (o .c) (together s l vs)) ≡ false)
   offer-due e =
       let p = passed (checks s o l (offer b vs)) e in
-      let n = or-parts (ltb (length vs) 2) (ltb 8 (length vs)) (p .0) in
-      (record {
-        formed = record {
-          enough = ltb-false (length vs) 2 (n .0);
-          few = ltb-false 8 (length vs) (n .1);
-          present = on-map s vs .0 (not-false (every (onMap s) vs) (p .1 .0));
-          differ = not-false (apart vs) (p .1 .1 .0);
-          away = off-rack s (core s vs) (rest vs) .0 (not-false (every (λ v. not (eqb (rackOf s v) (core s vs))) (rest vs)) (p .1 .1 .1 .0));
-        };
-        new = p .1 .1 .1 .1 .0;
-        below = leb-false (o .k) (length (blocksOf (stripe l (core s vs)))) (p .1 .1 .1 .1 .1 .0);
-      }, p .1 .1 .1 .1 .1 .1 .0)
+      let n = or-parts (ltb (length vs) 2) (ltb 8 (length vs)) (p .0) in (
+        record {
+          formed = record {
+            enough = ltb-false (length vs) 2 (n .0);
+            few = ltb-false 8 (length vs) (n .1);
+            present = on-map s vs .0 (not-false (every (onMap s) vs) (p .1 .0));
+            differ = not-false (apart vs) (p .1 .1 .0);
+            away = off-rack s (core s vs) (rest vs) .0 (not-false (every (λ v. not (eqb (rackOf s v) (core s vs))) (rest vs)) (p .1 .1 .1 .0));
+          };
+          new = p .1 .1 .1 .1 .0;
+          below = leb-false (o .k) (length (blocksOf (stripe l (core s vs)))) (p .1 .1 .1 .1 .1 .0);
+        },
+        p .1 .1 .1 .1 .1 .1 .0,
+      )
 
   -- and a block that is due meets no refusal before the last
   pub due-passes : Due s o l b vs → first (checks s o l (offer b vs)) ≡ first ((none (choices s (o .c) (together s l vs)), 24) ∷ [])
   due-passes d =
       let cs : List (Bool × ℕ) = checks s o l (offer b vs) in
-      past (take 6 cs) (drop 6 cs)
-      (or-from (ltb (length vs) 2) (ltb 8 (length vs)) (le-ltb (length vs) 2 (d .formed .enough)) (le-ltb 8 (length vs) (d .formed .few)),
-      (not-from-true (every (onMap s) vs) (on-map s vs .1 (d .formed .present)),
-      (not-from-true (apart vs) (d .formed .differ),
-      (not-from-true (every (λ v. not (eqb (rackOf s v) (core s vs))) (rest vs)) (off-rack s (core s vs) (rest vs) .1 (d .formed .away)),
-      (d .new,
-      (lt-leb (o .k) (length (blocksOf (stripe l (core s vs)))) (d .below),
-      tt))))))
+      past (take 6 cs) (drop 6 cs) (
+        or-from (ltb (length vs) 2) (ltb 8 (length vs)) (le-ltb (length vs) 2 (d .formed .enough)) (le-ltb 8 (length vs) (d .formed .few)),
+        (
+          not-from-true (every (onMap s) vs) (on-map s vs .1 (d .formed .present)),
+          (
+            not-from-true (apart vs) (d .formed .differ),
+            (
+              not-from-true (every (λ v. not (eqb (rackOf s v) (core s vs))) (rest vs)) (off-rack s (core s vs) (rest vs) .1 (d .formed .away)),
+              (
+                d .new,
+                (
+                  lt-leb (o .k) (length (blocksOf (stripe l (core s vs)))) (d .below),
+                  tt,
+                ),
+              ),
+            ),
+          ),
+        ),
+      )

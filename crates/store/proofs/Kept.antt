@@ -141,17 +141,20 @@ module _ (s : Site) (limits : Limits s) (l : Ledger) (sound : Sound s l) (o : Co
         let g = answer-given s l (plan rack (length before)) r before after a m in
         let rows : List Line = planRows s (blocksOf (stripe l rack)) (planOf (stripe l rack)) in
         let same : rows ≡ planRows s bs p = ap (λ x. planRows s (blocksOf x) (planOf x)) e in
-        let long : length rows ≡ o .n = ap length same ∙ (plan-length s bs p ∙ full) in
-        (g .0 ∙ ap (λ n. Ok (Rows n)) long,
-        g .1 (omega (arith, long)) ∙ (ap (λ n. rows ++ map shown (drop n before)) long ∙ ap (λ x. x ++ map shown (drop (o .n) before)) same))
+        let long : length rows ≡ o .n = ap length same ∙ (plan-length s bs p ∙ full) in (
+          g .0 ∙ ap (λ n. Ok (Rows n)) long,
+          g .1 (omega (arith, long)) ∙ (ap (λ n. rows ++ map shown (drop n before)) long ∙ ap (λ x. x ++ map shown (drop (o .n) before)) same),
+        )
 
     stands : (w : ℕ) (lost : List ℕ) → All (λ v. v < length s) lost → distinct s lost + o .c * ones w ≤ o .n - o .k → Answering s l (standing rack lost w) r before after
         → (r ≡ Ok (Standing (stand s p lost w))) × (length p ≡ o .n) × (o .k ≤ stand s p lost w)
     stands w lost on few a =
         let cs : List (Bool × ℕ) = checks s o l (standing rack lost w) in
-        let m = coded s l (standing rack lost w) o None c (past cs [] (rack-near rack near, (not-from-true (every (onMap s) lost) (on-map s lost .1 on), (shut, tt)))) in
-        (answer-given s l (standing rack lost w) r before after a m .0 ∙ ap (λ x. Ok (Standing (stand s (planOf x) lost w))) e,
-        full, sealed-stands s limits o (sound .fit o c) rack bs p stocked lost w few)
+        let m = coded s l (standing rack lost w) o None c (past cs [] (rack-near rack near, (not-from-true (every (onMap s) lost) (on-map s lost .1 on), (shut, tt)))) in (
+          answer-given s l (standing rack lost w) r before after a m .0 ∙ ap (λ x. Ok (Standing (stand s (planOf x) lost w))) e,
+          full,
+          sealed-stands s limits o (sound .fit o c) rack bs p stocked lost w few,
+        )
 
   pub sound-kept : (call : Call) → Answering s l call r before after → Named s l call r → Kept s o l call r before after
   sound-kept call a n =

@@ -45,8 +45,13 @@ gone-few s (b ∷ bs) [] h = omega arith
 gone-few s (b ∷ bs) (v ∷ p) h =
     let line : ℕ → Line = λ w. (2, b .number, w, rackOf s w) in
     let i = gone-few s bs p (λ i k. h (suc i) (omega arith)) in
-    omega (arith, length-append (goneOf s b v) (goneRows s bs p), length-map (kept-by (λ w. not (eqb w v)) (b .copies)) line,
-      others-fewer v (b .copies) (h 0 (omega arith)), sumBy-cons (λ x. length (x .copies) - 1) b bs)
+    omega (
+      arith,
+      length-append (goneOf s b v) (goneRows s bs p),
+      length-map (kept-by (λ w. not (eqb w v)) (b .copies)) line,
+      others-fewer v (b .copies) (h 0 (omega arith)),
+      sumBy-cons (λ x. length (x .copies) - 1) b bs,
+    )
 
 -- a plan begins with a copy of each block
 planned-listed : (s : Site) (n k c : ℕ) (bs : List Copies) (v : ℕ) → (choices s c bs ≡ [] → ⊥) → (i : ℕ) → i < length bs → has (getD (planned s n k c bs v) i 0) (getD bs i []) ≡ true

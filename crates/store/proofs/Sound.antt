@@ -68,15 +68,15 @@ put-sound s o l r x h c k g = record {
   unset = λ e. absurd (none-some o (sym c ∙ e));
   fit = h .fit;
   stocked = λ t e q.
-    elim (cases-eq q r) [
-      | inl i ↦
-          let same : o ≡ t = cc in
-          let here : getD (set (l .stripes) r x) r empty ≡ x = getD-set-same (l .stripes) r x empty (omega (arith, h .full)) in
-          let P : ℕ → Type 0 = λ j. Stocked s t j (getD (set (l .stripes) r x) j empty) in
-          let Q : Code → Type 0 = λ a. Stocked s a r x in
-          subst P (sym i) (subst (Stocked s t r) (sym here) (subst Q same g))
-      | inr i ↦ subst (Stocked s t q) (sym (getD-set-other (l .stripes) r q x empty i)) (h .stocked t e q)
-    ];
+      elim (cases-eq q r) [
+        | inl i ↦
+            let same : o ≡ t = cc in
+            let here : getD (set (l .stripes) r x) r empty ≡ x = getD-set-same (l .stripes) r x empty (omega (arith, h .full)) in
+            let P : ℕ → Type 0 = λ j. Stocked s t j (getD (set (l .stripes) r x) j empty) in
+            let Q : Code → Type 0 = λ a. Stocked s a r x in
+            subst P (sym i) (subst (Stocked s t r) (sym here) (subst Q same g))
+        | inr i ↦ subst (Stocked s t q) (sym (getD-set-other (l .stripes) r q x empty i)) (h .stocked t e q)
+      ];
 }
 
 module _ (s : Site) (limits : Limits s) where
@@ -89,13 +89,15 @@ module _ (s : Site) (limits : Limits s) where
       let x : Block = record { number = b; copies = vs } in
       let g : Gathered s o r bs = stocked-gathered s o r (stripe l r) (h .stocked o c r) in
       let both : copiesOf (bs ++ x ∷ []) ≡ together s l vs = map-push (λ y. y .copies) bs x in
-      put-sound s o l r (filling (bs ++ x ∷ [])) h c (core-racked s limits vs (d .formed))
-      (record {
-        formed = all-push (λ y. WellFormed s (y .copies)) bs x (g .formed) (d .formed);
-        home = all-push (λ y. core s (y .copies) ≡ r) bs x (g .home) refl;
-        few = rw (length-push bs x) (omega (arith, d .below));
-        choice = λ e. true≢false (sym (ap (λ y. none (choices s (o .c) y)) (sym both) ∙ ap none e) ∙ m);
-      }, rw (length-push bs x) (omega arith))
+      put-sound s o l r (filling (bs ++ x ∷ [])) h c (core-racked s limits vs (d .formed)) (
+        record {
+          formed = all-push (λ y. WellFormed s (y .copies)) bs x (g .formed) (d .formed);
+          home = all-push (λ y. core s (y .copies) ≡ r) bs x (g .home) refl;
+          few = rw (length-push bs x) (omega (arith, d .below));
+          choice = λ e. true≢false (sym (ap (λ y. none (choices s (o .c) y)) (sym both) ∙ ap none e) ∙ m);
+        },
+        rw (length-push bs x) (omega arith),
+      )
 
   sealing : (o : Code) (l : Ledger) (r v : ℕ) → Sound s l → l .code ≡ Some o → r < 32 → v < length s → o .k ≤ length (blocksOf (stripe l r))
       → Sound s (noted s o l (seal r v))

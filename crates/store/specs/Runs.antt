@@ -36,4 +36,4 @@ Alike {M} {N} s a b = (qs : List Asked) (rs ts : List Reply) (y : Store M) (z : 
 -- after the same calls over sites of one meaning, a call has one result and leaves the same rows
 abbrev pub One-reply : Type 0
 One-reply = (s : Site) → Limits s → (h : List Call) (call : Call) (r t : Result Answer Refusal) (old new also : List Row)
-  → Answered s (ledger s h) call r old new → Named s (ledger s h) call r → Answered s (ledger s h) call t old also → Named s (ledger s h) call t → (r ≡ t) × (new ≡ also)
+    → Answered s (ledger s h) call r old new → Named s (ledger s h) call r → Answered s (ledger s h) call t old also → Named s (ledger s h) call t → (r ≡ t) × (new ≡ also)
