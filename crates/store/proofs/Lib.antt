@@ -4,6 +4,7 @@ pub mod Fits
 pub mod Tells
 pub mod Written
 pub mod Reading
+pub mod Offering
 pub mod Coded
 pub mod Sound
 pub mod Keeps
