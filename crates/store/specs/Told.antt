@@ -2,7 +2,7 @@
 use mathlib.Core.Path.{_≡_}
 use mathlib.Core.Bool.{true}
 use mathlib.Core.List.{List, [], _∷_, _++_, map}
-use Prim.Native.Nat.{ℕ, _≤_}
+use Prim.Native.Nat.{ℕ, _+_, _≤_}
 use lib.ListN.{length, drop}
 use Rattle.std.specs.Results.{isErr}
 use Rattle.std.specs.declared.option.Option.the-variants.{Some, None}
@@ -13,12 +13,13 @@ use Rattle.choices.specs.Choice.{Copies, choices}
 use Rattle.choices.specs.Tight.{LeastTight}
 use Rattle.store.specs.declared.types.Row.{Row}
 use Rattle.store.specs.declared.types.Answer.{Answer}
+use Rattle.store.specs.declared.types.Answer.the-variants.{Position}
 use Rattle.store.specs.declared.types.Refusal.{Refusal}
 use Rattle.store.specs.declared.types.Refusal.the-variants.{NoChoice}
 use Rattle.store.specs.declared.store.Store.{Store}
-use Rattle.store.specs.Stripes.{Code, Ledger, Call, offer, blocksOf, stripe, copiesOf, core}
+use Rattle.store.specs.Stripes.{Code, Block, Ledger, Call, filling, offer, blocksOf, stripe, copiesOf, core}
 use Rattle.store.specs.Refusals.{numberOf, refusedBy}
-use Rattle.store.specs.Ledger.{step, ledger}
+use Rattle.store.specs.Ledger.{put, step, ledger}
 use Rattle.store.specs.Answers.{shown, accepted, written, Answered}
 use Rattle.store.specs.Promise.{together, Promised}
 use Rattle.store.specs.Table.{ledgerOf}
@@ -49,3 +50,12 @@ pub record Since (s : Site) (h : List Call) (call : Call) (after : Ledger) (r : 
   pub ledgered : after ≡ ledger s (h ++ call ∷ [])
   pub answered : Answered s (ledger s h) call r old new
   pub promised : Promised s h call r old new
+
+-- one more block for rack r's stripe, at most c in a rack: added where it leaves a choice, and otherwise refused with the set that crowds it out
+abbrev pub Tried : {M : Type 0} → Site → ℕ → ℕ → Block → Store M → Store M → Result Answer Refusal → Type 0
+Tried s c r b before after (Ok a) =
+  let own = blocksOf (stripe (ledgerOf before) r) in
+  (choices s c (copiesOf own ++ b .copies ∷ []) ≡ [] → ⊥) × (a ≡ Position (length own + 1)) × (ledgerOf after ≡ put (ledgerOf before) r (filling (own ++ b ∷ []))) × (after .map ≡ before .map)
+Tried s c r b before after (Err e) =
+  let own = blocksOf (stripe (ledgerOf before) r) in
+  (choices s c (copiesOf own ++ b .copies ∷ []) ≡ []) × ((w : ℕ) × (e ≡ NoChoice w) × ((choices s c (copiesOf own) ≡ [] → ⊥) → LeastTight s c (copiesOf own ++ b .copies ∷ []) w)) × (after ≡ before)

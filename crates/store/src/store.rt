@@ -7,7 +7,7 @@ use crate::stripe::Stripe;
 use placement::code::Code;
 use site::SiteMap;
 
-/// No stripe has more than k blocks, and none has any while there is no code.
+/// No stripe has more than k blocks, a sealed one has k, and all are empty while there is no code.
 #[derive(Drop)]
 pub struct Store<M: SiteMap> {
     pub(crate) map: M,

@@ -1,19 +1,18 @@
 use mathlib.Core.Path.{refl}
 use mathlib.Core.List.{[]}
-use native.Mathlib.Omega.{arith}
 use Rattle.store.specs.Stripes as led
 use Rattle.store.specs.Table.{ledgerOf}
 use Rattle.store.specs.declared.types.Refusal.the-variants.{StripeEmpty}
 use Rattle.store.specs.declared.types.Answer.the-variants.{Done}
 use Rattle.store.proofs.Tells.{told-refusal, told-done, unnamed-call, abandon-not, abandon-done, put-done}
-use Rattle.store.proofs.Fits.{fits-put}
+use Rattle.store.proofs.Fits.{fits-put, allowed-empty}
 use Rattle.store.proofs.store.Store.abandon.Needs as need
 
 pub ghost-self : need.ghost-self
-ghost-self g c = fits-put (c .args .self .now) (c .args .rack .0) (c .clear .last .self) led.empty (c .clear .ensures) (omega arith)
+ghost-self g c = fits-put (c .args .self .now) (c .args .rack .0) (c .clear .last .self) (allowed-empty (c .args .self .now .code) (c .clear .last .self) (c .clear .ensures))
 
 pub ghost-self-in-Sealed : need.ghost-self-in-Sealed
-ghost-self-in-Sealed g c = fits-put (c .args .self .now) (c .args .rack .0) (c .clear-in-Sealed .last .self) led.empty (c .clear-in-Sealed .ensures) (omega arith)
+ghost-self-in-Sealed g c = fits-put (c .args .self .now) (c .args .rack .0) (c .clear-in-Sealed .last .self) (allowed-empty (c .args .self .now .code) (c .clear-in-Sealed .last .self) (c .clear-in-Sealed .ensures))
 
 pub returns-in-Empty : need.returns-in-Empty
 returns-in-Empty g c =

@@ -1,16 +1,15 @@
 use mathlib.Core.Path.{refl}
 use mathlib.Core.List.{[]}
-use native.Mathlib.Omega.{arith}
 use Rattle.store.specs.Stripes as led
 use Rattle.store.specs.Table.{ledgerOf}
 use Rattle.store.specs.declared.types.Refusal.the-variants.{NotSealed}
 use Rattle.store.specs.declared.types.Answer.the-variants.{Done}
 use Rattle.store.proofs.Tells.{told-refusal, told-done, unnamed-call, release-not, release-done, put-done}
-use Rattle.store.proofs.Fits.{fits-put}
+use Rattle.store.proofs.Fits.{fits-put, allowed-empty}
 use Rattle.store.proofs.store.Store.release.Needs as need
 
 pub ghost-self : need.ghost-self
-ghost-self g c = fits-put (c .args .self .now) (c .args .rack .0) (c .clear .last .self) led.empty (c .clear .ensures) (omega arith)
+ghost-self g c = fits-put (c .args .self .now) (c .args .rack .0) (c .clear .last .self) (allowed-empty (c .args .self .now .code) (c .clear .last .self) (c .clear .ensures))
 
 pub returns-in-Empty : need.returns-in-Empty
 returns-in-Empty g c =
