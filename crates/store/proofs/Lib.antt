@@ -1,0 +1,16 @@
+pub mod Looks
+pub mod Held
+pub mod Fits
+pub mod Tells
+pub mod Written
+pub mod Reading
+pub mod Offering
+pub mod Coded
+pub mod Sound
+pub mod Kept
+pub mod History
+pub mod Same
+pub mod Checked
+pub mod Numbers
+pub mod Plans
+pub mod Alike

@@ -1,17 +1,17 @@
 -- What each call answers at a ledger, and the rows that it writes.
 use mathlib.Core.Path.{_≡_}
-use mathlib.Core.Bool.{Bool, _&&_, not}
+use mathlib.Core.Bool.{not}
 use mathlib.Core.List.{List, [], _∷_, _++_, map}
-use Prim.Native.Nat.{ℕ, suc, _+_}
+use Prim.Native.Nat.{ℕ, suc, _+_, _-_}
 use lib.Dec.{eqb}
 use lib.ListN.{length, drop}
-use Rattle.std.specs.shelf.Lists.{countBy, kept-by}
+use Rattle.std.specs.shelf.Lists.{kept-by}
+use Rattle.std.specs.shelf.Maps.{nth}
 use Rattle.std.specs.declared.option.Option.the-variants.{Some, None}
 use Rattle.std.specs.declared.result.Result.{Result}
 use Rattle.std.specs.declared.result.Result.the-variants.{Ok, Err}
 use Rattle.site.specs.Site.{Site, rackOf}
-use Rattle.site.specs.Words.{member}
-use Rattle.choices.specs.Choice.{has}
+use Rattle.choices.specs.Survive.{stand}
 use Rattle.store.specs.declared.types.Kind.{Kind}
 use Rattle.store.specs.declared.types.Kind.the-variants.{Data, Parity, Deleted}
 use Rattle.store.specs.declared.types.Row.{Row}
@@ -34,6 +34,9 @@ Line = ℕ × ℕ × ℕ × ℕ
 abbrev pub shown : Row → Line
 shown row = (kindOf (row .kind), row .number, row .node .0, row .rack .0)
 
+abbrev pub lines : List Row → List Line
+lines rows = map shown rows
+
 -- data rows by position
 abbrev pub dataRows : Site → List Block → List ℕ → List Line
 dataRows s [] vs = []
@@ -53,10 +56,6 @@ abbrev pub goneRows : Site → List Block → List ℕ → List Line
 goneRows s [] vs = []
 goneRows s (b ∷ bs) [] = []
 goneRows s (b ∷ bs) (v ∷ vs) = map (λ w. (2, b .number, w, rackOf s w)) (kept-by (λ w. not (eqb w v)) (b .copies)) ++ goneRows s bs vs
-
--- how many planned blocks are on no lost node and in no lost rack
-abbrev pub stand : Site → List ℕ → List ℕ → ℕ → ℕ
-stand s p lost w = countBy (λ v. not (has v lost) && not (member w (rackOf s v))) p
 
 -- what an accepted call answers
 abbrev pub accepted : Site → Ledger → Call → Answer
@@ -85,3 +84,10 @@ abbrev pub Answered : Site → Ledger → Call → Result Answer Refusal → Lis
 Answered s l call r before after = elim (refusedBy s l call) [
     Some q ↦ ((e : Refusal) × (r ≡ Err e) × (numberOf e ≡ q)) × (after ≡ before)
   | None ↦ (r ≡ Ok (accepted s l call)) × (map shown after ≡ written s l call ++ map shown (drop (length (written s l call)) before)) ]
+
+-- the same rows one by one: the plan's row for its node v at place i from 0, and the deletions of a block that keeps v
+abbrev pub planRow : Site → List Block → ℕ → ℕ → Line
+planRow s bs i v = elim (nth bs i) [ Some b ↦ (0, b .number, v, rackOf s v) | None ↦ (1, i - length bs + 1, v, rackOf s v) ]
+
+abbrev pub goneOf : Site → Block → ℕ → List Line
+goneOf s b v = map (λ w. (2, b .number, w, rackOf s w)) (kept-by (λ w. not (eqb w v)) (b .copies))

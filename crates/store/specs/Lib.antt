@@ -3,3 +3,8 @@ pub mod Refusals
 pub mod Ledger
 pub mod Answers
 pub mod Promise
+pub mod Fitted
+pub mod Table
+pub mod Told
+pub mod Sound
+pub mod Runs

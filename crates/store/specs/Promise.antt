@@ -11,9 +11,9 @@ use Rattle.std.specs.declared.option.Option.the-variants.{Some, None}
 use Rattle.std.specs.declared.result.Result.{Result}
 use Rattle.std.specs.declared.result.Result.the-variants.{Ok, Err}
 use Rattle.site.specs.Site.{Site, rackOf}
-use Rattle.choices.specs.Sums.{countTo}
-use Rattle.choices.specs.Choice.{Copies, Choice, has, apart}
+use Rattle.choices.specs.Choice.{Copies, Choice, apart}
 use Rattle.choices.specs.Tight.{LeastTight}
+use Rattle.choices.specs.Survive.{stand, distinct}
 use Rattle.store.specs.declared.types.Row.{Row}
 use Rattle.store.specs.declared.types.Answer.{Answer}
 use Rattle.store.specs.declared.types.Answer.the-variants.{Done, Rows, Standing}
@@ -21,7 +21,7 @@ use Rattle.store.specs.declared.types.Refusal.{Refusal}
 use Rattle.store.specs.declared.types.Refusal.the-variants.{NoChoice}
 use Rattle.store.specs.Stripes.{Code, Block, Ledger, Call, filling, sealed, offer, seal, plan, standing, blocksOf, stripe, copiesOf, holds, core, rest}
 use Rattle.store.specs.Ledger.{ledger}
-use Rattle.store.specs.Answers.{shown, planRows, stand}
+use Rattle.store.specs.Answers.{shown, planRows}
 
 -- 2 to 8 different nodes on the map, the later ones in other racks than the first
 pub record WellFormed (s : Site) (vs : Copies) : Type 0 where
@@ -40,10 +40,6 @@ pub record Due (s : Site) (o : Code) (l : Ledger) (b : ℕ) (vs : Copies) : Type
 -- the stripe's blocks and the offered one
 abbrev pub together : Site → Ledger → Copies → List Copies
 together s l vs = copiesOf (blocksOf (stripe l (core s vs))) ++ (vs ∷ [])
-
--- how many different nodes are lost
-abbrev pub distinct : Site → List ℕ → ℕ
-distinct s lost = countTo (length s) (λ v. has v lost)
 
 -- of a call made after the calls whose ledger is l, with the code o: its result r, and the caller's rows before and after it
 pub record Kept (s : Site) (o : Code) (l : Ledger) (call : Call) (r : Result Answer Refusal) (before after : List Row) : Type 0 where

@@ -9,7 +9,7 @@ use Rattle.choices.specs.Tight.{LeastTight}
 use Rattle.store.specs.Stripes.{Call, set-up, offer, seal, start, stripe, planOf}
 use Rattle.store.specs.Refusals.{refusedBy}
 use Rattle.store.specs.Ledger.{ledger}
-use Rattle.store.specs.Answers.{stand}
+use Rattle.choices.specs.Survive.{stand}
 use Rattle.store.specs.Promise.{together}
 
 -- 4 by 2, all racks targets

@@ -1,0 +1,11 @@
+// A rack's stripe record.
+use placement::lists::Blocks;
+use placement::lists::Nodes;
+
+/// Empty, filling with some blocks, or sealed with its blocks and the nodes of its plan.
+#[derive(Clone, Copy)]
+pub enum Stripe {
+    Empty,
+    Filling(Blocks),
+    Sealed(Blocks, Nodes),
+}
