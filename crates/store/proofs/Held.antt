@@ -14,10 +14,10 @@ use Rattle.std.specs.declared.option.Option.{Option}
 use Rattle.std.specs.declared.option.Option.the-variants.{Some, None}
 use Rattle.site.specs.Words.{member}
 use Rattle.choices.specs.Choice.{has}
-use Rattle.placement.specs.declared.block.Block.{Block}
-use Rattle.placement.specs.declared.lists.Blocks.{Blocks}
-use Rattle.placement.specs.Blocks as told
-use Rattle.placement.specs.Lists as list
+use Rattle.blocks.specs.declared.block.Block.{Block}
+use Rattle.blocks.specs.declared.lists.Blocks.{Blocks}
+use Rattle.blocks.specs.Blocks as told
+use Rattle.blocks.specs.Lists as list
 use Rattle.store.specs.declared.stripe.Stripe.{Stripe}
 use Rattle.store.specs.declared.store.Store.{Store}
 use Rattle.store.specs.Stripes as led

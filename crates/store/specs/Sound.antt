@@ -9,7 +9,7 @@ use Rattle.site.specs.Site.{Site, Limits}
 use Rattle.choices.specs.Choice.{choices}
 use Rattle.choices.specs.Room.{space}
 use Rattle.choices.specs.Plan.{planned}
-use Rattle.placement.specs.Codes.{Within}
+use Rattle.blocks.specs.Codes.{Within}
 use Rattle.store.specs.Stripes.{Code, Block, Stripe, Ledger, Call, empty, filling, sealed, plan, deletions, set-up, offer, seal, standing, release, abandon, stripe, copiesOf, core}
 use Rattle.store.specs.Promise.{WellFormed}
 use Rattle.store.specs.Ledger.{ledger}
