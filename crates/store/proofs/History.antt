@@ -103,6 +103,14 @@ roomed (call.Standing r vs w) room = tt
 roomed (call.Release r) room = tt
 roomed (call.Abandon r) room = tt
 
+-- what is answered where a refusal is met, and where none is, with room for the rows or without a word of it
+module _ (s : Site) (l : Ledger) (q : Call) (r : Result Answer Refusal) (old new : List Row) where
+  abbrev Loose : Option ℕ → Type 0
+  Loose x = elim x as (λ _. Type 0) [ Some q ↦ ((e : Refusal) × (r ≡ Err e) × (numberOf e ≡ q)) × (new ≡ old) | None ↦ (r ≡ Ok (accepted s l q)) × (length (written s l q) ≤ length old → map shown new ≡ written s l q ++ map shown (drop (length (written s l q)) old)) ]
+
+  abbrev Tight : Option ℕ → Type 0
+  Tight x = elim x as (λ _. Type 0) [ Some q ↦ ((e : Refusal) × (r ≡ Err e) × (numberOf e ≡ q)) × (new ≡ old) | None ↦ (r ≡ Ok (accepted s l q)) × (map shown new ≡ written s l q ++ map shown (drop (length (written s l q)) old)) ]
+
 module _ (s : Site) (limits : Limits s) (l : Ledger) (sound : Sound s l) where
   plan-fits : (o : Code) (r room : ℕ) → l .code ≡ Some o → refusedBy s l (plan r room) ≡ None → length (written s l (plan r room)) ≤ room
   plan-fits o r room c e =
@@ -141,13 +149,7 @@ module _ (s : Site) (limits : Limits s) (l : Ledger) (sound : Sound s l) where
   fits (abandon x) n t d r e = omega arith
 
   module _ (q : Call) (r : Result Answer Refusal) (old new : List Row) where
-    abbrev Loose : Option ℕ → Type 0
-    Loose x = elim x as (λ _. Type 0) [ Some q ↦ ((e : Refusal) × (r ≡ Err e) × (numberOf e ≡ q)) × (new ≡ old) | None ↦ (r ≡ Ok (accepted s l q)) × (length (written s l q) ≤ length old → map shown new ≡ written s l q ++ map shown (drop (length (written s l q)) old)) ]
-
-    abbrev Tight : Option ℕ → Type 0
-    Tight x = elim x as (λ _. Type 0) [ Some q ↦ ((e : Refusal) × (r ≡ Err e) × (numberOf e ≡ q)) × (new ≡ old) | None ↦ (r ≡ Ok (accepted s l q)) × (map shown new ≡ written s l q ++ map shown (drop (length (written s l q)) old)) ]
-
-    tighten : (x : Option ℕ) → refusedBy s l q ≡ x → Roomed q (length old) → Loose x → Tight x
+    tighten : (x : Option ℕ) → refusedBy s l q ≡ x → Roomed q (length old) → Loose s l q r old new x → Tight s l q r old new x
     tighten (Some e) f m a = a
     tighten None f m a = (a .0, a .1 (fits q (length old) (l .code) refl m f))
 
@@ -166,3 +168,22 @@ module _ {M : Type 0} (s : Site) (limits : Limits s) (st after : Store M) (q : C
         answered = a;
         promised = λ o c. kept s limits o l c sound q r old new a n;
       }
+
+-- a call that writes no rows leaves the caller's as they were
+module _ {M : Type 0} (s : Site) (st after : Store M) (q : Call) (r : Result Answer Refusal) (rows : List Row) (none : written s (ledgerOf st) q ≡ []) where
+  spare : (x : Option ℕ) → Loose s (ledgerOf st) q r [] [] x → Loose s (ledgerOf st) q r rows rows x
+  spare (Some e) a = (a .0, refl)
+  spare None a = (a .0, λ _. subst (λ w. map shown rows ≡ w ++ map shown (drop (length w) rows)) (sym none) refl)
+
+  pub rowless : Told s st after q r [] [] → Told s st after q r rows rows
+  rowless t = record {
+    answers = spare (refusedBy s (ledgerOf st) q) (t .answers);
+    names = t .names;
+    noted = t .noted;
+    kept = t .kept;
+    refused = λ h. (t .refused h .0, refl);
+  }
+
+-- the call as it was matched
+pub matched : {M : Type 0} (s : Site) (st after : Store M) (c d : code.Call) (r : Result Answer Refusal) (rows new : List Row) → c ≡ d → Told s st after (callOf d (length rows)) r rows new → Told s st after (callOf c (length rows)) r rows new
+matched s st after c d r rows new e t = subst (λ x. Told s st after (callOf x (length rows)) r rows new) (sym e) t

@@ -1,4 +1,5 @@
 // One store over one map for life: its code, the 32 stripes, the eight calls, and the promise over any list of calls.
+pub mod calls;
 pub mod checks;
 pub mod laws;
 pub mod offers;
