@@ -10,3 +10,4 @@ pub mod Sound
 pub mod Keeps
 pub mod History
 pub mod Same
+pub mod Running

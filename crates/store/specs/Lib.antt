@@ -6,3 +6,4 @@ pub mod Promise
 pub mod Fitted
 pub mod Table
 pub mod Told
+pub mod Runs

@@ -6,6 +6,7 @@ pub mod offers;
 pub mod reads;
 pub mod records;
 pub mod rows;
+pub mod runs;
 pub mod setups;
 pub mod store;
 pub mod stripe;
