@@ -27,7 +27,7 @@ use Rattle.store.specs.Promise.{together}
 use Rattle.store.specs.Table.{ledgerOf}
 use Rattle.store.specs.Told.{Answering, Named}
 use Rattle.store.specs.Sound.{Sound}
-use Rattle.store.specs.Runs.{Asked, Reply, Ran}
+use Rattle.store.specs.Replies.{Asked, Reply, Ran}
 use Rattle.store.proofs.Tells.{coded, uncoded}
 use Rattle.store.proofs.Numbers.{same-refusal, same-rows}
 use Rattle.store.proofs.Sound.{stocked-gathered, ledger-sound, ledger-push}

@@ -14,3 +14,4 @@ pub mod Checked
 pub mod Numbers
 pub mod Plans
 pub mod Alike
+pub mod Running

@@ -3,19 +3,21 @@ use mathlib.Core.Path.{_≡_, refl, sym, ap, subst, _∙_}
 use mathlib.Core.Bool.{Bool, true, false, not, _||_}
 use mathlib.Core.List.{List, [], _∷_, _++_, map}
 use mathlib.Core.Logic.{⊎-elim}
-use Prim.Native.Nat.{ℕ, _+_, _<_, _≤_}
+use Prim.Native.Nat.{ℕ, _+_, _-_, _<_, _≤_}
 use native.Mathlib.Omega.{arith}
 use lib.Dec.{eqb, leb, ltb}
 use lib.ListN.{length, getD, set, drop, take}
 use Rattle.std.specs.shelf.Lists.{Has}
 use Rattle.std.proofs.shelf.Elements.{has-getD}
-use Rattle.std.proofs.shelf.Lists.{drop-more, drop-all, length-map}
-use Rattle.std.proofs.shelf.Tests.{lt-ltb, le-ltb, le-leb, lt-leb, or-from, or-left, or-right, cases-lt}
+use Rattle.std.proofs.shelf.Lists.{drop-more, drop-all, length-map, take-rest}
+use Rattle.std.proofs.shelf.Tests.{lt-ltb, le-ltb, le-leb, lt-leb, or-from, or-left, or-right, cases-lt, ltb-true, and-parts}
 use Rattle.std.specs.declared.option.Option.{Option}
 use Rattle.std.specs.declared.option.Option.the-variants.{Some, None}
 use Rattle.std.specs.declared.result.Result.{Result}
 use Rattle.std.specs.declared.result.Result.the-variants.{Ok, Err}
-use Rattle.site.specs.Site.{Site, rackOf}
+use Rattle.site.specs.Site.{Site, Limits, rackOf}
+use Rattle.site.specs.declared.Node.{Node}
+use Rattle.choices.proofs.Parity.{rack-below}
 use Rattle.choices.specs.Choice.{Copies, Choice, has, every, apart, choices}
 use Rattle.choices.specs.Tight.{LeastTight}
 use Rattle.choices.specs.Hall.{Some-choice}
@@ -44,6 +46,7 @@ use Rattle.store.specs.Promise.{together}
 use Rattle.store.specs.Told.{Told, Named, Tried}
 use Rattle.store.specs.Table.{heldOf, heldsOf, stripeOf, codeOf, ledgerOf}
 use Rattle.store.proofs.Held.{stripe-at, put-at, helds-lists, helds-length}
+use Rattle.store.proofs.Written.{copies-length}
 use Rattle.store.proofs.Tells.{coded, code-some, ruled, rack-near, told-refusal, told-done, unnamed, step-noted}
 
 -- a look for a number through the stripes
@@ -201,3 +204,22 @@ module _ {M : Type 0} (s : Site) (st : Store M) (r : ℕ) (d : Stripe) (o : Code
     seal-noted d′ new p f q =
         let lists : list.listsOf bs ≡ led.copiesOf (led.blocksOf (led.stripe (ledgerOf st) r)) = sym (helds-lists bs) ∙ ap (λ y. led.copiesOf (led.blocksOf y)) (sym (at (Filling bs) e)) in
         f ∙ (ap (λ y. led.sealed (led.blocksOf y) (list.nodesOf p)) (sym (stripe-at st r near d′)) ∙ ap (led.sealed (led.blocksOf (led.stripe (ledgerOf st) r))) (q ∙ ap (λ l. planned s (o .n) (o .k) (o .c) l v) lists))
+
+-- the list of a block
+pub block-long : (b : code.Block) (vs : List Node) → told.copiesOf b ≡ told.numbers vs → (2 ≤ length (told.numbers vs)) × (length (told.numbers vs) ≤ 8)
+block-long b vs e = (omega (arith, copies-length b, ap length e, b .enough), omega (arith, copies-length b, ap length e, b .few))
+
+pub nodes-long : (vs : List Node) → length (told.numbers vs) ≡ length vs
+nodes-long vs = length-map vs (λ v. v .0)
+
+pub core-is : (s : Site) (vs : List Node) (d : Node) → 0 < length vs → rackOf s (getD vs 0 d .0) ≡ led.core s (told.numbers vs)
+core-is s [] d h = absurd (omega arith)
+core-is s (v ∷ vs) d h = refl
+
+pub rest-is : (vs : List Node) → told.numbers (take (length vs - 1) (drop 1 vs)) ≡ led.rest (told.numbers vs)
+rest-is [] = refl
+rest-is (v ∷ vs) = ap told.numbers (take-rest (v ∷ vs) 1)
+
+pub core-near : (s : Site) (vs : List ℕ) → Limits s → 0 < length vs → every (onMap s) vs ≡ true → led.core s vs < 32
+core-near s [] l h e = absurd (omega arith)
+core-near s (v ∷ vs) l h e = rack-below s l v (ltb-true v (length s) (and-parts (onMap s v) (every (onMap s) vs) e .0))

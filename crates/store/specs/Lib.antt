@@ -8,3 +8,4 @@ pub mod Table
 pub mod Told
 pub mod Sound
 pub mod Runs
+pub mod Replies

@@ -9,7 +9,7 @@ ghost use Rattle.site.specs.Site.{rackOf};
 ghost use Rattle.site.specs.Words.{member};
 ghost use Rattle.choices.specs.Choice.{has, apart, every};
 ghost use Rattle.blocks.specs.Blocks.{numbers};
-ghost use Rattle.store.specs.Stripes.{core};
+ghost use Rattle.store.specs.Stripes.{core, rest};
 ghost use Rattle.store.specs.Refusals.{onMap};
 use site::Node;
 use site::RACKS;
@@ -80,4 +80,18 @@ pub(crate) fn bit_on(word: u32, rack: Rack) -> bool
     ensures { λ r. ⌜ r ≡ member word (rack .0) ⌝ }
 {
     rack.0 < RACKS && (word >> rack.0) % 2 == 1
+}
+
+/// The rack of the first node; of no nodes, the first number that is no rack.
+pub(crate) fn core_rack<M: SiteMap>(map: &M, nodes: &[Node]) -> Rack
+    ensures { λ r. ⌜ r .0 ≡ core (meaning (now (map .entry))) (numbers (now (nodes .entry))) ⌝ }
+{
+    if nodes.len() > 0 { rack_of(map, nodes[0]) } else { Rack(RACKS) }
+}
+
+/// Whether no node but the first lies in the rack.
+pub(crate) fn rest_outside<M: SiteMap>(map: &M, rack: Rack, nodes: &[Node]) -> bool
+    ensures { λ r. ⌜ r ≡ every (λ v. not (eqb (rackOf (meaning (now (map .entry))) v) (rack .0))) (rest (numbers (now (nodes .entry)))) ⌝ }
+{
+    if nodes.len() > 0 { all_outside(map, rack, &nodes[1..]) } else { true }
 }

@@ -2,7 +2,7 @@
 ghost use mathlib.Core.Path.{_≡_};
 ghost use mathlib.Core.List.{List};
 ghost use Rattle.store.specs.Ledger.{ledger};
-ghost use Rattle.store.specs.Runs.{Alike, One-reply};
+ghost use Rattle.store.specs.Replies.{Alike, One-reply};
 ghost use Rattle.store.specs.Sound.{Ledger-sound};
 ghost use Rattle.store.specs.Stripes as led;
 ghost use Rattle.store.specs.Table.{ledgerOf};

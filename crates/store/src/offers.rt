@@ -10,8 +10,8 @@ ghost use Rattle.store.specs.Table.{heldOf, ledgerOf};
 ghost use Rattle.store.specs.Told.{Told, Tried};
 use crate::checks::all_differ;
 use crate::checks::all_on_map;
-use crate::checks::all_outside;
-use crate::checks::rack_of;
+use crate::checks::core_rack;
+use crate::checks::rest_outside;
 use crate::store::Store;
 use crate::stripe::Stripe;
 use crate::types::Answer;
@@ -75,8 +75,8 @@ impl<M: SiteMap> Store<M> {
         if !all_differ(nodes) {
             return Err(Refusal::NodeTwice);
         }
-        let rack = rack_of(&self.map, nodes[0]);
-        if !all_outside(&self.map, rack, &nodes[1..]) {
+        let rack = core_rack(&self.map, nodes);
+        if !rest_outside(&self.map, rack, nodes) {
             return Err(Refusal::CoreRackAgain);
         }
         if self.holds(number) {

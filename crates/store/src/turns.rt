@@ -36,8 +36,8 @@ impl<M: SiteMap> Store<M> {
             Stripe::Empty => Err(Refusal::NotSealed),
             Stripe::Filling(_) => Err(Refusal::NotSealed),
             Stripe::Sealed(_, _) => {
-                let s = &mut self.stripes[rack.0 as usize];
-                s.clear();
+                let record = &mut self.stripes[rack.0 as usize];
+                record.clear();
                 Ok(Answer::Done)
             }
         }
@@ -57,13 +57,13 @@ impl<M: SiteMap> Store<M> {
         match s {
             Stripe::Empty => Err(Refusal::StripeEmpty),
             Stripe::Filling(_) => {
-                let s = &mut self.stripes[rack.0 as usize];
-                s.clear();
+                let filling = &mut self.stripes[rack.0 as usize];
+                filling.clear();
                 Ok(Answer::Done)
             }
             Stripe::Sealed(_, _) => {
-                let s = &mut self.stripes[rack.0 as usize];
-                s.clear();
+                let sealed = &mut self.stripes[rack.0 as usize];
+                sealed.clear();
                 Ok(Answer::Done)
             }
         }
