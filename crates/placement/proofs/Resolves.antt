@@ -1,6 +1,6 @@
 -- Lists resolved to seats: one node more, one list more, and what the seats then tell of the site.
 use mathlib.Core.Path.{_≡_, refl, sym, ap, subst, _∙_}
-use mathlib.Core.Bool.{Bool, true, false, _&&_}
+use mathlib.Core.Bool.{Bool, true, false}
 use mathlib.Core.List.{List, [], _∷_, _++_, map}
 use mathlib.Core.Logic.{inl, inr}
 use Prim.Native.Nat.{ℕ, zero, suc, _+_, _<_, _≤_}
@@ -13,7 +13,6 @@ use Rattle.std.proofs.shelf.Elements.{kept-by-append}
 use Rattle.std.proofs.shelf.Tests.{and-parts, and-from, cases-bool, or-cases, eqb-true, false≢true}
 use Rattle.site.specs.Fills.{filled}
 use Rattle.site.specs.Site.{Site, keeps, rackOf}
-use Rattle.site.specs.declared.Node.{Node}
 use Rattle.site.proofs.Fills.{filled-push, length-filled}
 use Rattle.choices.specs.Choice.{Copies, has}
 use Rattle.choices.specs.Hall.{usable}
@@ -21,8 +20,8 @@ use Rattle.choices.proofs.Nodes.{has-place, has-at}
 use Rattle.placement.specs.declared.block.Block.{Block}
 use Rattle.placement.specs.declared.seat.Seat.{Seat}
 use Rattle.placement.specs.declared.seat.Seats.{Seats}
-use Rattle.placement.specs.Blocks.{copiesOf, numbers}
-use Rattle.placement.specs.Seats.{seatsOf, nodeAt, rackAt, Sits}
+use Rattle.placement.specs.Blocks.{copiesOf}
+use Rattle.placement.specs.Seats.{seatsOf, Sits}
 use Rattle.placement.specs.Resolved.{seatAt, seated, listsIn, Resolved, Seating}
 
 -- one listed node more

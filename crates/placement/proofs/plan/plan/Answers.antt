@@ -1,6 +1,6 @@
-use mathlib.Core.Path.{_≡_, sym, ap, subst, _∙_}
+use mathlib.Core.Path.{_≡_, ap, _∙_}
 use mathlib.Core.Logic.{inl, inr}
-use mathlib.Core.List.{List, [], _∷_, _++_}
+use mathlib.Core.List.{List, _∷_, _++_}
 use Prim.Native.Nat.{ℕ, _-_, min, _<_, _≤_}
 use native.Mathlib.Nat.{le-min, min-le-left, le-refl}
 use native.Mathlib.Omega.{arith}
@@ -9,7 +9,7 @@ use Rattle.std.proofs.shelf.Lists.{length-map}
 use Rattle.site.specs.Site.{Site}
 use Rattle.choices.specs.Choice.{Copies, choices}
 use Rattle.choices.specs.Plan.{firstOf, parity, round, planned}
-use Rattle.choices.proofs.Head.{empty-or, empty-none, first-choice}
+use Rattle.choices.proofs.Head.{empty-or, first-choice}
 use Rattle.placement.specs.Blocks.{copiesOf}
 use Rattle.placement.specs.Lists.{blocksOf, listsOf}
 use Rattle.placement.proofs.plan.plan.Needs as need
