@@ -2,7 +2,7 @@
 use mathlib.Core.Path.{_≡_, refl, sym, ap, subst, _∙_}
 use mathlib.Core.Bool.{Bool, true}
 use mathlib.Core.List.{List, [], _∷_, _++_, map}
-use Prim.Native.Nat.{ℕ, _+_, _<_, _≤_}
+use Prim.Native.Nat.{ℕ, _+_, _≤_}
 use native.Mathlib.Omega.{arith}
 use lib.ListN.{length, getD, set}
 use Rattle.std.specs.Iters.{counting}
@@ -12,7 +12,7 @@ use Rattle.std.specs.declared.result.Result.the-variants.{Ok, Err}
 use Rattle.std.specs.shelf.Lists.{kept-by}
 use Rattle.std.proofs.shelf.Lists.{length-map, map-append, length-push}
 use Rattle.site.specs.Site.{Site, Limits, keeps, rackOf}
-use Rattle.choices.specs.Choice.{Copies, Choice, choices}
+use Rattle.choices.specs.Choice.{Copies, choices}
 use Rattle.choices.specs.Hall.{usable, Some-choice}
 use Rattle.choices.specs.Tight.{LeastTight}
 use Rattle.choices.specs.Search.{Sized, Complete}

@@ -7,6 +7,6 @@ pub mod plan;
 mod resolve;
 pub mod room;
 mod search;
-pub mod seat;
+mod seat;
 #[cfg(test)]
 mod tests;

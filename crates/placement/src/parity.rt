@@ -3,7 +3,7 @@
 ghost use mathlib.Core.Path.{_≡_};
 ghost use mathlib.Core.Bool.{cond};
 ghost use mathlib.Core.List.{[], _∷_, _++_};
-ghost use Prim.Native.Nat.{ℕ, _+_, _-_, min, _<_, _≤_};
+ghost use Prim.Native.Nat.{_+_, _-_, min, _<_, _≤_};
 ghost use lib.ListN.{length, getD, set, take};
 ghost use Rattle.std.specs.Iters.{counting};
 ghost use Rattle.choices.specs.Plan.{round, parity as parityOf};

@@ -1,7 +1,7 @@
 // The plan of a sealed stripe: one kept copy of each block, then the parity nodes.
 ghost use mathlib.Core.Path.{_≡_};
 ghost use mathlib.Core.List.{[]};
-ghost use Prim.Native.Nat.{ℕ, _<_, _≤_};
+ghost use Prim.Native.Nat.{_<_, _≤_};
 ghost use lib.ListN.{length};
 ghost use Rattle.choices.specs.Plan.{planned};
 ghost use Rattle.blocks.specs.Lists.{listsOf, nodesOf};

@@ -1,7 +1,7 @@
 // Blocks' lists resolved against a map: the only step that asks it, once for each listed node.
 ghost use mathlib.Core.Path.{_≡_};
-ghost use mathlib.Core.List.{List, [], _∷_, _++_};
-ghost use Prim.Native.Nat.{ℕ, _+_, _<_, _≤_};
+ghost use mathlib.Core.List.{[], _∷_, _++_};
+ghost use Prim.Native.Nat.{_+_, _<_, _≤_};
 ghost use lib.ListN.{length};
 ghost use Rattle.blocks.specs.Blocks.{copiesOf};
 ghost use Rattle.placement.specs.Seats.{seatsOf};

@@ -1,5 +1,4 @@
-use mathlib.Core.Path.{refl, ap, subst}
-use native.Mathlib.Omega.{arith}
+use mathlib.Core.Path.{refl, subst}
 use Rattle.std.proofs.shelf.Lists.{take-all}
 use Rattle.blocks.specs.Blocks.{numbers}
 use Rattle.placement.specs.Plans.{Loads}
