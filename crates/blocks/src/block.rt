@@ -7,6 +7,7 @@ use site::Node;
 
 /// The fewest and the most copies of a block.
 pub const FEWEST: usize = 2;
+
 pub const COPIES: usize = 8;
 
 /// A block's number and its list of 2 to 8 nodes; the entries past the list are node 0, so that equal lists are equal blocks.

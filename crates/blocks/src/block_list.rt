@@ -16,7 +16,10 @@ impl Blocks {
     pub fn new() -> Blocks
         ensures { λ r. ⌜ blocksOf r ≡ [] ⌝ }
     {
-        Blocks { at: [Block::blank(); 16], len: 0 }
+        Blocks {
+            at: [Block::blank(); 16],
+            len: 0,
+        }
     }
 
     pub fn len(&self) -> usize

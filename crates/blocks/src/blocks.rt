@@ -22,14 +22,22 @@ impl Block {
         for (i, v) in nodes.iter().enumerate() {
             own[i] = *v;
         }
-        Some(Block { number, nodes: own, len: nodes.len() })
+        Some(Block {
+            number,
+            nodes: own,
+            len: nodes.len(),
+        })
     }
 
     /// A block that stands in unused entries of a table.
     pub fn blank() -> Block
         ensures { λ r. ⌜ (r .number ≡ 0) × (copiesOf r ≡ 0 ∷ 0 ∷ []) ⌝ }
     {
-        Block { number: 0, nodes: [Node(0); 8], len: FEWEST }
+        Block {
+            number: 0,
+            nodes: [Node(0); 8],
+            len: FEWEST,
+        }
     }
 
     pub fn number(&self) -> u32

@@ -6,6 +6,7 @@ ghost use Rattle.blocks.specs.Codes.{Within};
 
 /// The most data blocks, and the most blocks, of a stripe.
 pub const DATA: u32 = 16;
+
 pub const ALL: u32 = 24;
 
 /// n, k and c within their limits.

@@ -10,6 +10,7 @@ use site::Node;
 
 /// The most blocks of a stripe, and the most nodes of a plan.
 pub const BLOCKS: usize = 16;
+
 pub const PLANNED: usize = 24;
 
 /// Up to 16 blocks; past them stands `Block::blank()`.

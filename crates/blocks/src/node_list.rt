@@ -16,7 +16,10 @@ impl Nodes {
     pub fn new() -> Nodes
         ensures { λ r. ⌜ nodesOf r ≡ [] ⌝ }
     {
-        Nodes { at: [Node(0); 24], len: 0 }
+        Nodes {
+            at: [Node(0); 24],
+            len: 0,
+        }
     }
 
     pub fn len(&self) -> usize

@@ -5,11 +5,11 @@ ghost use Prim.Native.Nat.{_<_, _≤_};
 ghost use lib.ListN.{length};
 ghost use Rattle.choices.specs.Plan.{planned};
 ghost use Rattle.blocks.specs.Lists.{listsOf, nodesOf};
-use blocks::code::Code;
 use crate::first::first_choice;
+use crate::parity::parity;
+use blocks::code::Code;
 use blocks::lists::Blocks;
 use blocks::lists::Nodes;
-use crate::parity::parity;
 use site::Node;
 use site::SiteMap;
 

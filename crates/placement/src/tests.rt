@@ -1,11 +1,11 @@
 // The traps of admission and of the first choice.
 use crate::admit::admit;
 use crate::admit::set_size;
+use crate::plan::plan;
 use blocks::block::Block;
 use blocks::code::Code;
 use blocks::lists::Blocks;
 use blocks::lists::Nodes;
-use crate::plan::plan;
 use site::Node;
 use site::SiteMap;
 use site::regular::RegularMap;

@@ -14,12 +14,11 @@ ask-requires g c κs =
     omega (arith, copies-length (c .args .block .now), c .args .block .now .few, c .loop-i .inv .1)
 
 pub loop-i-again : need.loop-i-again
-loop-i-again g c =
-    (
-      resolve-step (g .M·SiteMap .meaning (c .args .map .now)) (c .nodes-nodes .result .now) (copiesOf (c .args .block .now)) (c .nodes-nodes .ensures) (c .loop-i .i)
+loop-i-again g c = (
+  resolve-step (g .M·SiteMap .meaning (c .args .map .now)) (c .nodes-nodes .result .now) (copiesOf (c .args .block .now)) (c .nodes-nodes .ensures) (c .loop-i .i)
       (c .loop-i-test .taken) _ _ (c .loop-i .inv .0) (c .ask .ensures .same),
-      omega (arith, c .ask .ensures .few, c .loop-i .inv .1)
-    )
+  omega (arith, c .ask .ensures .few, c .loop-i .inv .1),
+)
 
 pub returns : need.returns
 returns g c =

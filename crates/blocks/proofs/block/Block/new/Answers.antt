@@ -9,7 +9,6 @@ use Rattle.site.specs.Fills.{filled}
 use Rattle.site.proofs.Fills.{filled-push, take-filled, drop-filled, length-filled, map-replicate}
 use Rattle.blocks.proofs.block.Block.new.Needs as need
 
-
 -- the array after all of the list has been copied
 whole : (own vs : List Node) (i : ℕ) → own ≡ filled (record { 0 = 0 }) 8 (take i vs) → length vs ≤ i → own ≡ filled (record { 0 = 0 }) 8 vs
 whole own vs i e h = e ∙ ap (filled (record { 0 = 0 }) 8) (take-all i vs h)
