@@ -1,129 +1,205 @@
--- What a call returns after some calls hangs on the site and the calls alone, so stores over maps of one meaning cannot be told apart.
-use mathlib.Core.Path.{_≡_, refl, sym, ap, ap₂, subst, _∙_}
-use mathlib.Core.Bool.{Bool, true, false}
+-- The rules leave a call one answer.
+use mathlib.Core.Path.{_≡_, refl, sym, ap, subst, _∙_}
+use mathlib.Core.Bool.{Bool, true, false, cond, not, _||_}
 use mathlib.Core.List.{List, [], _∷_, _++_, map}
+use mathlib.Core.Logic.{⊎-elim}
 use Prim.Native.Nat.{ℕ}
 use native.Mathlib.Omega.{arith}
-use lib.Dec.{eqb}
-use lib.ListN.{length, drop}
-use Rattle.std.proofs.shelf.Tests.{false≢true, eq-eqb, or-left, or-right}
+use lib.Dec.{eqb, leb, ltb}
+use lib.ListN.{length, take, getD}
+use Rattle.std.specs.shelf.Maps.{nth}
+use Rattle.std.proofs.shelf.Maps.{nth-getD}
+use Rattle.std.proofs.shelf.Tests.{cases-eq, eq-eqb, or-parts, leb-false, true≢false, false≢true}
 use Rattle.std.specs.declared.option.Option.{Option}
 use Rattle.std.specs.declared.option.Option.the-variants.{Some, None}
 use Rattle.std.specs.declared.result.Result.{Result}
-use Rattle.std.specs.declared.result.Result.the-variants.{Ok, Err}
-use Rattle.site.specs.Site.{Site, Limits}
-use Rattle.choices.specs.Choice.{Copies, has}
+use Rattle.std.specs.declared.result.Result.the-variants.{Err}
+use Rattle.site.specs.Site.{Site, rackOf}
+use Rattle.choices.specs.Choice.{Copies, Choice, has, every, apart, choices}
+use Rattle.choices.proofs.Head.{empty-none}
 use Rattle.choices.proofs.Sites.{least-one}
 use Rattle.store.specs.declared.types.Row.{Row}
 use Rattle.store.specs.declared.types.Answer.{Answer}
 use Rattle.store.specs.declared.types.Refusal.{Refusal}
-use Rattle.store.specs.declared.types.Refusal.the-variants.{NoChoice}
-use Rattle.store.specs.declared.store.Store.{Store}
-use Rattle.store.specs.Stripes.{Code, Ledger, Call, set-up, offer, seal, plan, deletions, standing, release, abandon, stripe, core}
-use Rattle.store.specs.Refusals.{numberOf, first, checks, fresh, refusedBy}
-use Rattle.store.specs.Ledger.{step, ledger}
-use Rattle.store.specs.Answers.{Answered, accepted, written, shown}
-use Rattle.store.specs.Promise.{together}
-use Rattle.store.specs.Table.{ledgerOf}
-use Rattle.store.specs.Told.{Answering, Named}
-use Rattle.store.specs.Sound.{Sound}
-use Rattle.store.specs.Replies.{Asked, Reply, Ran}
+use Rattle.store.specs.declared.types.Refusal.the-variants.{OutsideLimits, SpaceBelowN, ListLength, OffMap, NodeTwice, CoreRackAgain, NoSuchRack, NotSetUp, SetUpBefore, BlockHeld, StripeFull, NoChoice, StripeBelowK, Sealed, NotSealed, StripeEmpty, FewRows}
+use Rattle.store.specs.Stripes.{Code, Ledger, Call, set-up, offer, seal, plan, deletions, standing, release, abandon, blocksOf, stripe, holds, core, rest}
+use Rattle.store.specs.Refusals.{none, first, checks, fresh, refusedBy, numberOf, onMap}
+use Rattle.store.specs.Ledger.{ledger}
+use Rattle.store.specs.Answers.{Answered}
+use Rattle.store.specs.Promise.{Due, Kept, together}
+use Rattle.store.specs.Runs.{AllAnswered, Alike}
 use Rattle.store.proofs.Tells.{coded, uncoded}
-use Rattle.store.proofs.Numbers.{same-refusal, same-rows}
-use Rattle.store.proofs.Sound.{stocked-gathered, ledger-sound, ledger-push}
-use Rattle.store.proofs.Kept.{answered}
+use Rattle.store.proofs.Sound.{Unmet, formed-by}
+use Rattle.store.proofs.Keeps.{accepts, refuses, only-word}
 
-some-same : {A : Type 0} (x y : A) → Some x ≡ Some y → x ≡ y
-some-same x y e = cc
+-- a refusal by its number and its word
+abbrev wordOf : Refusal → ℕ
+wordOf OutsideLimits = 0
+wordOf SpaceBelowN = 0
+wordOf ListLength = 0
+wordOf OffMap = 0
+wordOf NodeTwice = 0
+wordOf CoreRackAgain = 0
+wordOf NoSuchRack = 0
+wordOf NotSetUp = 0
+wordOf SetUpBefore = 0
+wordOf BlockHeld = 0
+wordOf StripeFull = 0
+wordOf (NoChoice w) = w
+wordOf StripeBelowK = 0
+wordOf Sealed = 0
+wordOf NotSealed = 0
+wordOf StripeEmpty = 0
+wordOf FewRows = 0
 
--- the refusal that is met is one of those that are checked for
-met-among : (cs : List (Bool × ℕ)) (q : ℕ) → first cs ≡ Some q → has q (map (λ c. c .1) cs) ≡ true
-met-among [] q e = let z : _≡_ {A = ℕ} 0 1 = cc in absurd (omega arith)
-met-among ((true, n) ∷ more) q e = or-left (eqb q n) _ (eq-eqb q n (sym (some-same n q e)))
-met-among ((false, n) ∷ more) q e = or-right (eqb q n) _ (met-among more q e)
+abbrev refusalOf : ℕ → ℕ → Refusal
+refusalOf q w =
+    cond (eqb q 1) OutsideLimits (cond (eqb q 2) SpaceBelowN (cond (eqb q 3) ListLength (cond (eqb q 4) OffMap
+    (cond (eqb q 5) NodeTwice (cond (eqb q 6) CoreRackAgain (cond (eqb q 7) NoSuchRack (cond (eqb q 20) NotSetUp
+    (cond (eqb q 21) SetUpBefore (cond (eqb q 22) BlockHeld (cond (eqb q 23) StripeFull (cond (eqb q 24) (NoChoice w)
+    (cond (eqb q 25) StripeBelowK (cond (eqb q 26) Sealed (cond (eqb q 27) NotSealed (cond (eqb q 28) StripeEmpty FewRows)))))))))))))))
 
--- 24 is met by offers alone
-abbrev Offered : Ledger → Call → Type 0
-Offered l call = (o : Code) × (l .code ≡ Some o) × ((b : ℕ) × ((vs : Copies) × (call ≡ offer b vs)))
+refusal-is : (e : Refusal) → e ≡ refusalOf (numberOf e) (wordOf e)
+refusal-is OutsideLimits = refl
+refusal-is SpaceBelowN = refl
+refusal-is ListLength = refl
+refusal-is OffMap = refl
+refusal-is NodeTwice = refl
+refusal-is CoreRackAgain = refl
+refusal-is NoSuchRack = refl
+refusal-is NotSetUp = refl
+refusal-is SetUpBefore = refl
+refusal-is BlockHeld = refl
+refusal-is StripeFull = refl
+refusal-is (NoChoice w) = refl
+refusal-is StripeBelowK = refl
+refusal-is Sealed = refl
+refusal-is NotSealed = refl
+refusal-is StripeEmpty = refl
+refusal-is FewRows = refl
 
-module _ (s : Site) (l : Ledger) where
-  crowded-with : (o : Code) (call : Call) → l .code ≡ Some o → first (checks s o l call) ≡ Some 24 → Offered l call
-  crowded-with o (set-up n k c) e m = absurd (false≢true (met-among (checks s o l (set-up n k c)) 24 m))
-  crowded-with o (offer b vs) e m = (o, e, (b, (vs, refl)))
-  crowded-with o (seal r v) e m = absurd (false≢true (met-among (checks s o l (seal r v)) 24 m))
-  crowded-with o (plan r rows) e m = absurd (false≢true (met-among (checks s o l (plan r rows)) 24 m))
-  crowded-with o (deletions r rows) e m = absurd (false≢true (met-among (checks s o l (deletions r rows)) 24 m))
-  crowded-with o (standing r vs w) e m = absurd (false≢true (met-among (checks s o l (standing r vs w)) 24 m))
-  crowded-with o (release r) e m = absurd (false≢true (met-among (checks s o l (release r)) 24 m))
-  crowded-with o (abandon r) e m = absurd (false≢true (met-among (checks s o l (abandon r)) 24 m))
+wordless : (e : Refusal) → (numberOf e ≡ 24 → ⊥) → wordOf e ≡ 0
+wordless OutsideLimits ne = refl
+wordless SpaceBelowN ne = refl
+wordless ListLength ne = refl
+wordless OffMap ne = refl
+wordless NodeTwice ne = refl
+wordless CoreRackAgain ne = refl
+wordless NoSuchRack ne = refl
+wordless NotSetUp ne = refl
+wordless SetUpBefore ne = refl
+wordless BlockHeld ne = refl
+wordless StripeFull ne = refl
+wordless (NoChoice w) ne = absurd (ne refl)
+wordless StripeBelowK ne = refl
+wordless Sealed ne = refl
+wordless NotSealed ne = refl
+wordless StripeEmpty ne = refl
+wordless FewRows ne = refl
 
-  crowded-without : (call : Call) → first (fresh s call) ≡ Some 24 → ⊥
-  crowded-without (set-up n k c) m = false≢true (met-among (fresh s (set-up n k c)) 24 m)
-  crowded-without (offer b vs) m = false≢true (met-among (fresh s (offer b vs)) 24 m)
-  crowded-without (seal r v) m = false≢true (met-among (fresh s (seal r v)) 24 m)
-  crowded-without (plan r rows) m = false≢true (met-among (fresh s (plan r rows)) 24 m)
-  crowded-without (deletions r rows) m = false≢true (met-among (fresh s (deletions r rows)) 24 m)
-  crowded-without (standing r vs w) m = false≢true (met-among (fresh s (standing r vs w)) 24 m)
-  crowded-without (release r) m = false≢true (met-among (fresh s (release r)) 24 m)
-  crowded-without (abandon r) m = false≢true (met-among (fresh s (abandon r)) 24 m)
+-- a number that no check has is not told, and the last check's is told where no other is met
 
-  pub crowded-offer : (call : Call) → refusedBy s l call ≡ Some 24 → Offered l call
-  crowded-offer call m = by (l .code) refl
+elsewhere : (b : Bool) (n q : ℕ) (more : Option ℕ) → eqb q n ≡ false → cond b (Some n) more ≡ Some q → (b ≡ false) × (more ≡ Some q)
+elsewhere true n q more ne e = let z : n ≡ q = cc in absurd (true≢false (sym (eq-eqb q n (sym z)) ∙ ne))
+elsewhere false n q more ne e = (refl, e)
+
+absent : (cs : List (Bool × ℕ)) (q : ℕ) → has q (map (λ c. c .1) cs) ≡ false → first cs ≡ Some q → ⊥
+absent [] q h e = let z : _≡_ {A = ℕ} 0 1 = cc in omega arith
+absent (c ∷ more) q h e = let p = or-parts (eqb q (c .1)) (has q (map (λ c. c .1) more)) h in absent more q (p .1) (elsewhere (c .0) (c .1) q (first more) (p .0) e .1)
+
+at-last : (front : List (Bool × ℕ)) (b : Bool) (q : ℕ) → has q (map (λ c. c .1) front) ≡ false → first (front ++ (b, q) ∷ []) ≡ Some q → Unmet front × (b ≡ true)
+at-last [] true q h e = (tt, refl)
+at-last [] false q h e = let z : _≡_ {A = ℕ} 0 1 = cc in absurd (omega arith)
+at-last (c ∷ more) b q h e =
+    let p = or-parts (eqb q (c .1)) (has q (map (λ c. c .1) more)) h in
+    let m = elsewhere (c .0) (c .1) q (first (more ++ (b, q) ∷ [])) (p .0) e in
+    let r = at-last more b q (p .1) (m .1) in
+    ((m .0, r .0), r .1)
+
+all-none : {A : Type 0} (xs : List A) → none xs ≡ true → xs ≡ []
+all-none [] e = refl
+all-none (x ∷ xs) e = absurd (false≢true e)
+
+-- where 24 is told, the block was due, and there is no choice
+due-at : (s : Site) (o : Code) (l : Ledger) (b : ℕ) (vs : Copies) → first (checks s o l (offer b vs)) ≡ Some 24 → Due s o l b vs × (choices s (o .c) (together s l vs) ≡ [])
+due-at s o l b vs e =
+    let own = blocksOf (stripe l (core s vs)) in
+    let front : List (Bool × ℕ) = (ltb (length vs) 2 || ltb 8 (length vs), 3) ∷ (not (every (onMap s) vs), 4) ∷ (not (apart vs), 5) ∷ (not (every (λ v. not (eqb (rackOf s v) (core s vs))) (rest vs)), 6) ∷ (holds (l .stripes) b, 22) ∷ (leb (o .k) (length own), 23) ∷ [] in
+    let m = at-last front (none (choices s (o .c) (together s l vs))) 24 refl e in
+    let a3 = m .0 in
+    (record { formed = formed-by s vs (a3 .0) (a3 .1 .0) (a3 .1 .1 .0) (a3 .1 .1 .1 .0); new = a3 .1 .1 .1 .1 .0; below = leb-false (o .k) (length own) (a3 .1 .1 .1 .1 .1 .0) }, all-none _ (m .1))
+
+abbrev Keeps : Site → Ledger → Call → Result Answer Refusal → List Row → List Row → Type 0
+Keeps s l q r b a = (o : Code) → l .code ≡ Some o → Kept s o l q r b a
+
+-- one word at most
+module _ (s : Site) (l : Ledger) (r r′ : Result Answer Refusal) (b a b′ a′ : List Row) (w w′ : ℕ) (is : r ≡ Err (NoChoice w)) (is′ : r′ ≡ Err (NoChoice w′)) where
+  word-by : (q : Call) (t : Option Code) → l .code ≡ t → Keeps s l q r b a → Keeps s l q r′ b′ a′ → refusedBy s l q ≡ Some 24 → w ≡ w′
+  word-by q None c k k′ e = absurd (fresh-not q (sym (uncoded s l q (first (fresh s q)) c refl) ∙ e))
     where
-      by : (c : Option Code) → l .code ≡ c → Offered l call
-      by None e = absurd (crowded-without call (sym (uncoded s l call (first (fresh s call)) e refl) ∙ m))
-      by (Some o) e = crowded-with o call e (sym (coded s l call o (first (checks s o l call)) e refl) ∙ m)
-
-module _ (s : Site) (l : Ledger) (sound : Sound s l) (call : Call) (r t : Result Answer Refusal) where
-  -- a refused offer names one set
-  one-word : refusedBy s l call ≡ Some 24 → (u w : ℕ) → r ≡ Err (NoChoice u) → t ≡ Err (NoChoice w) → Named s l call r → Named s l call t → u ≡ w
-  one-word m u w e f n k =
-      let x = crowded-offer s l call m in
-      let o = x .0 in
-      let b = x .2 .0 in
-      let vs = x .2 .1 .0 in
-      let i = x .2 .1 .1 in
-      let g = stocked-gathered s o (core s vs) (stripe l (core s vs)) (sound .stocked o (x .1) (core s vs)) in
-      least-one s (o .c) (together s l vs) u w (n o b vs u (x .1) i e (g .choice)) (k o b vs w (x .1) i f (g .choice))
-
-  pub one-reply-at : (old new also : List Row) → Answered s l call r old new → Named s l call r → Answered s l call t old also → Named s l call t → (r ≡ t) × (new ≡ also)
-  one-reply-at old new also a n d k = by (refusedBy s l call) refl
+      fresh-not : (q : Call) → first (fresh s q) ≡ Some 24 → ⊥
+      fresh-not (set-up n k c) e = absent (fresh s (set-up n k c)) 24 refl e
+      fresh-not (offer b vs) e = absent (fresh s (offer b vs)) 24 refl e
+      fresh-not (seal r v) e = absent (fresh s (seal r v)) 24 refl e
+      fresh-not (plan r rows) e = absent (fresh s (plan r rows)) 24 refl e
+      fresh-not (deletions r rows) e = absent (fresh s (deletions r rows)) 24 refl e
+      fresh-not (standing r vs w) e = absent (fresh s (standing r vs w)) 24 refl e
+      fresh-not (release r) e = absent (fresh s (release r)) 24 refl e
+      fresh-not (abandon r) e = absent (fresh s (abandon r)) 24 refl e
+  word-by q (Some o) c k k′ e = at q k k′ (sym (coded s l q o (first (checks s o l q)) c refl) ∙ e)
     where
-      by : (q : Option ℕ) → refusedBy s l call ≡ q → (r ≡ t) × (new ≡ also)
-      by None e =
-          let x : (r ≡ Ok (accepted s l call)) × (map shown new ≡ written s l call ++ map shown (drop (length (written s l call)) old)) = rw (e, Answered) at a in
-          let y : (t ≡ Ok (accepted s l call)) × (map shown also ≡ written s l call ++ map shown (drop (length (written s l call)) old)) = rw (e, Answered) at d in
-          (x .0 ∙ sym (y .0), same-rows new also (x .1 ∙ sym (y .1)))
-      by (Some q) e =
-          let x : ((f : Refusal) × (r ≡ Err f) × (numberOf f ≡ q)) × (new ≡ old) = rw (e, Answered) at a in
-          let y : ((f : Refusal) × (t ≡ Err f) × (numberOf f ≡ q)) × (also ≡ old) = rw (e, Answered) at d in
-          let same : x .0 .0 ≡ y .0 .0 = same-refusal (x .0 .0) (y .0 .0) (x .0 .2 ∙ sym (y .0 .2)) (λ u w i j.
-          one-word (e ∙ ap Some (sym (x .0 .2) ∙ ap numberOf i)) u w (x .0 .1 ∙ ap Err i) (y .0 .1 ∙ ap Err j) n k) in
-          (x .0 .1 ∙ (ap Err same ∙ sym (y .0 .1)), x .1 ∙ sym (y .1))
+      at : (q : Call) → Keeps s l q r b a → Keeps s l q r′ b′ a′ → first (checks s o l q) ≡ Some 24 → w ≡ w′
+      at (set-up n k c) k1 k2 e = absurd (absent (checks s o l (set-up n k c)) 24 refl e)
+      at (offer x vs) k1 k2 e =
+          let d = due-at s o l x vs e in
+          let no-choice : (us : List ℕ) → Choice s (o .c) (together s l vs) us → ⊥ = λ us h. empty-none s (o .c) (together s l vs) (d .1) us h in
+          let m = k1 o c .names x vs refl (d .0) no-choice in
+          let n = k2 o c .names x vs refl (d .0) no-choice in
+          let m-is = m .1 in
+          let n-is = n .1 in
+          let e1 : w ≡ m .0 = cc in
+          let e2 : w′ ≡ n .0 = cc in
+          e1 ∙ (least-one s (o .c) (together s l vs) (m .0) (n .0) (m .2) (n .2) ∙ sym e2)
+      at (seal x v) k1 k2 e = absurd (absent (checks s o l (seal x v)) 24 refl e)
+      at (plan x rows) k1 k2 e = absurd (absent (checks s o l (plan x rows)) 24 refl e)
+      at (deletions x rows) k1 k2 e = absurd (absent (checks s o l (deletions x rows)) 24 refl e)
+      at (standing x vs u) k1 k2 e = absurd (absent (checks s o l (standing x vs u)) 24 refl e)
+      at (release x) k1 k2 e = absurd (absent (checks s o l (release x)) 24 refl e)
+      at (abandon x) k1 k2 e = absurd (absent (checks s o l (abandon x)) 24 refl e)
 
-pub one-reply : (s : Site) → Limits s → (h : List Call) (call : Call) (r t : Result Answer Refusal) (old new also : List Row)
-    → Answered s (ledger s h) call r old new → Named s (ledger s h) call r → Answered s (ledger s h) call t old also → Named s (ledger s h) call t → (r ≡ t) × (new ≡ also)
-one-reply s limits h call r t old new also = one-reply-at s (ledger s h) (ledger-sound s limits h) call r t old new also
+module _ (s : Site) (l : Ledger) (q : Call) (r r′ : Result Answer Refusal) (b a b′ a′ : List Row)
+    (x : Answered s l q r b a) (y : Answered s l q r′ b′ a′) (k : Keeps s l q r b a) (k′ : Keeps s l q r′ b′ a′) where
+  one-by : (t : Option ℕ) → refusedBy s l q ≡ t → r ≡ r′
+  one-by None e = accepts s l q r b a x e .0 ∙ sym (accepts s l q r′ b′ a′ y e .0)
+  one-by (Some n) e =
+      let u = refuses s l q r b a x n e .0 in
+      let v = refuses s l q r′ b′ a′ y n e .0 in
+      let f = u .0 in
+      let g = v .0 in
+      let number : numberOf f ≡ numberOf g = u .2 ∙ sym (v .2) in
+      let word : wordOf f ≡ wordOf g =
+      ⊎-elim
+      (λ same.
+      let m = only-word f (u .2 ∙ same) in
+      let p = only-word g (v .2 ∙ same) in
+      ap wordOf (m .1) ∙ (word-by s l r r′ b a b′ a′ (m .0) (p .0) (u .1 ∙ ap Err (m .1)) (v .1 ∙ ap Err (p .1)) q (l .code) refl k k′ (e ∙ ap Some same) ∙ sym (ap wordOf (p .1))))
+      (λ ne. wordless f (λ z. ne (sym (u .2) ∙ z)) ∙ sym (wordless g (λ z. ne (sym (v .2) ∙ z))))
+      (cases-eq n 24) in
+      u .1 ∙ (ap Err (refusal-is f ∙ (ap (λ n. refusalOf n (wordOf f)) number ∙ (ap (refusalOf (numberOf g)) word ∙ sym (refusal-is g)))) ∙ sym (v .1))
 
-module _ {M N : Type 0} (s : Site) (limits : Limits s) where
-  pub alike : (h : List Call) (a y : Store M) (b z : Store N) (qs : List Asked) (rs ts : List Reply) → ledgerOf a ≡ ledger s h → ledgerOf b ≡ ledger s h
-      → Ran s a qs rs y → Ran s b qs ts z → (rs ≡ ts) × (ledgerOf y ≡ ledgerOf z)
-  alike h a y b z [] [] [] e f p q = (refl, ap ledgerOf (sym p) ∙ (e ∙ (sym f ∙ ap ledgerOf q)))
-  alike h a y b z [] [] (t ∷ ts) e f p q = absurd q
-  alike h a y b z [] (r ∷ rs) ts e f p q = absurd p
-  alike h a y b z (x ∷ qs) [] ts e f p q = absurd p
-  alike h a y b z (x ∷ qs) (r ∷ rs) [] e f p q = absurd q
-  alike h a y b z (x ∷ qs) (r ∷ rs) (t ∷ ts) e f p q =
-      let l : Ledger = ledger s h in
-      let m : List Call = h ++ x .0 ∷ [] in
-      let u : Answering s l (x .0) (r .0) (x .1) (r .1) = subst (λ w. Answering s w (x .0) (r .0) (x .1) (r .1)) e (p .1 .answers) in
-      let v : Answering s l (x .0) (t .0) (x .1) (t .1) = subst (λ w. Answering s w (x .0) (t .0) (x .1) (t .1)) f (q .1 .answers) in
-      let one = one-reply s limits h (x .0) (r .0) (t .0) (x .1) (r .1) (t .1)
-      (answered s limits h (x .0) (r .0) (x .1) (r .1) u (p .2)) (subst (λ w. Named s w (x .0) (r .0)) e (p .1 .names))
-      (answered s limits h (x .0) (t .0) (x .1) (t .1) v (q .2)) (subst (λ w. Named s w (x .0) (t .0)) f (q .1 .names)) in
-      let next = alike m (p .0) y (q .0) z qs rs ts
-      (p .1 .noted ∙ (ap (λ w. step s w (x .0)) e ∙ sym (ledger-push s h (x .0))))
-      (q .1 .noted ∙ (ap (λ w. step s w (x .0)) f ∙ sym (ledger-push s h (x .0)))) (p .3) (q .3) in
-      let pair : Result Answer Refusal → List Row → Reply = λ i j. (i, j) in
-      let first : r ≡ t = ap₂ pair (one .0) (one .1) in
-      (ap₂ (λ i j. i ∷ j) first (next .0), next .1)
+  pub one-answer : r ≡ r′
+  one-answer = one-by (refusedBy s l q) refl
+
+-- two lists of answers to the same calls
+pub answers-alike : (s : Site) (room : ℕ) (calls : List Call) (xs ys : List (Result Answer Refusal)) → AllAnswered s room calls xs → AllAnswered s room calls ys
+    → (i : ℕ) (q : Call) (x y : Result Answer Refusal) → nth calls i ≡ Some q → nth xs i ≡ Some x → nth ys i ≡ Some y → x ≡ y
+answers-alike s room calls xs ys f g i q x y e m n =
+    let u = f i q x e m in
+    let v = g i q y e n in
+    one-answer s (ledger s (take i calls)) q x y (u .0) (u .1) (v .0) (v .1) (u .3) (v .3) (u .4) (v .4)
+
+-- of two runs over sites that are the same
+pub runs-alike : (s t : Site) (room : ℕ) (calls : List Call) (xs ys : List (Result Answer Refusal)) → s ≡ t → AllAnswered s room calls xs → AllAnswered t room calls ys → Alike (length calls) xs ys
+runs-alike s t room calls xs ys e f g i x y h m n =
+    let d : Call = release 0 in
+    answers-alike s room calls xs ys f (subst (λ z. AllAnswered z room calls ys) (sym e) g) i (getD calls i d) x y (nth-getD calls i d h) m n

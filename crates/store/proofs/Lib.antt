@@ -7,11 +7,8 @@ pub mod Reading
 pub mod Offering
 pub mod Coded
 pub mod Sound
-pub mod Kept
+pub mod Keeps
 pub mod History
 pub mod Same
-pub mod Checked
-pub mod Numbers
-pub mod Plans
-pub mod Alike
 pub mod Running
+pub mod Alike

@@ -1,7 +1,7 @@
 -- Equal ledgers are equal stores, over equal maps.
 use mathlib.Core.Path.{_≡_, refl, sym, ap, subst, _∙_}
 use mathlib.Core.Bool.{true, Bool-set}
-use mathlib.Core.List.{List, [], _∷_, map}
+use mathlib.Core.List.{List, map}
 use Prim.Native.Nat.{ℕ}
 use native.Mathlib.Nat.{ℕ-set}
 use native.Mathlib.Omega.{arith}
@@ -10,9 +10,7 @@ use Rattle.std.specs.declared.option.Option.{Option}
 use Rattle.std.specs.declared.option.Option.the-variants.{Some, None}
 use Rattle.blocks.specs.declared.block.Block.{Block}
 use Rattle.blocks.specs.declared.lists.Blocks.{Blocks}
-use Rattle.blocks.specs.declared.lists.Nodes.{Nodes}
 use Rattle.blocks.specs.declared.code.Code.{Code}
-use Rattle.blocks.specs.Blocks.{told}
 use Rattle.blocks.specs.Lists.{blocksOf, nodesOf}
 use Rattle.blocks.proofs.Same.{same-blocks, same-nodes, same-code, map-one}
 use Rattle.store.specs.declared.stripe.Stripe.{Stripe}

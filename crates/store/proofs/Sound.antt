@@ -1,162 +1,205 @@
--- The ledger of any list of calls is sound: a refused call leaves it as it was, and what an accepted call notes has passed its checks.
+-- What the ledger of every list of calls is: its code within the limits and with space for it, every stripe's blocks well formed and
+-- with a choice, and every plan that of its blocks.
 use mathlib.Core.Path.{_≡_, refl, sym, ap, subst, _∙_}
-use mathlib.Core.Bool.{false}
-use mathlib.Core.Logic.{inl, inr}
-use mathlib.Core.List.{List, [], _∷_, _++_}
-use Prim.Native.Nat.{ℕ, zero, suc, _<_, _≤_}
+use mathlib.Core.Bool.{Bool, true, false, cond, not, _||_}
+use mathlib.Core.List.{List, [], _∷_, _++_, map}
+use Prim.Native.Nat.{ℕ, zero, suc, _+_, _<_, _≤_}
 use native.Mathlib.Omega.{arith}
+use lib.Dec.{eqb, ltb}
 use lib.ListN.{length, getD, set, replicate}
-use Rattle.std.specs.shelf.Lists.{folded}
-use Rattle.std.proofs.shelf.Elements.{all-push}
-use Rattle.std.proofs.shelf.Lists.{length-set, length-push, map-push, getD-set-same, getD-set-other, getD-past}
-use Rattle.std.proofs.shelf.Sums.{folded-push}
-use Rattle.std.proofs.shelf.Tests.{true≢false, cases-eq, cases-lt, ltb-false, ltb-true, not-false}
+use Rattle.std.specs.shelf.Lists.{All, folded}
+use Rattle.std.proofs.shelf.Elements.{all-set, all-push}
+use Rattle.std.proofs.shelf.Lists.{length-set, length-push, map-push}
+use Rattle.std.proofs.shelf.Tests.{ltb-true, ltb-false, leb-false, eqb-false, not-true, not-false, and-parts, or-parts, true≢false}
 use Rattle.std.specs.declared.option.Option.{Option}
 use Rattle.std.specs.declared.option.Option.the-variants.{Some, None}
-use Rattle.site.specs.Site.{Site, Limits}
-use Rattle.choices.specs.Choice.{Copies, choices}
+use Rattle.site.specs.Site.{Site, rackOf}
+use Rattle.choices.specs.Choice.{Copies, every, apart, choices}
+use Rattle.choices.specs.Room.{space}
 use Rattle.choices.specs.Plan.{planned}
-use Rattle.choices.proofs.Parity.{rack-below}
-use Rattle.store.specs.Stripes.{Code, Block, Stripe, Ledger, Call, empty, filling, sealed, start, set-up, offer, seal, plan, deletions, standing, release, abandon, blocksOf, isEmpty, stripe, copiesOf, core}
-use Rattle.store.specs.Refusals.{first, checks, fresh, refusedBy, onMap, none}
+use Rattle.blocks.specs.Codes.{Within}
+use Rattle.store.specs.Stripes.{Code, Block, Stripe, Ledger, Call, empty, filling, sealed, start, set-up, offer, seal, plan, deletions, standing, release, abandon, blocksOf, isSealed, stripe, copiesOf, core, rest}
+use Rattle.store.specs.Refusals.{none, first, checks, fresh, refusedBy, onMap}
 use Rattle.store.specs.Ledger.{put, noted, codeNoted, step, ledger}
-use Rattle.store.specs.Promise.{WellFormed, Due, together}
-use Rattle.store.specs.Sound.{Fitting, Gathered, Stocked, Sound}
-use Rattle.store.proofs.Checked.{none-some, passed, offer-due}
-use Rattle.store.proofs.Coded as code
+use Rattle.store.specs.Promise.{WellFormed}
+use Rattle.store.proofs.Coded.{within}
 use Rattle.store.proofs.Tells.{coded, uncoded, step-refused, step-noted, step-coded}
 
--- the first copy of a well-formed block lies in one of 32 racks
-pub core-racked : (s : Site) → Limits s → (vs : Copies) → WellFormed s vs → core s vs < 32
-core-racked s limits [] h = absurd (omega (arith, h .enough))
-core-racked s limits (v ∷ vs) h = rack-below s limits v (h .present .0)
+pub record CodeSound (s : Site) (o : Code) : Type 0 where
+  pub limits : Within (o .n) (o .k) (o .c)
+  pub roomy : o .n ≤ space s (o .c)
 
--- no blocks have a choice
-pub none-gathered : (s : Site) (o : Code) (r : ℕ) → Gathered s o r []
-none-gathered s o r = record { formed = tt; home = tt; few = omega arith; choice = λ e. true≢false (ap none (sym e)) }
+pub record BlocksSound (s : Site) (o : Code) (bs : List Block) : Type 0 where
+  pub few : length bs ≤ o .k
+  pub formed : All (λ b. WellFormed s (b .copies)) bs
+  pub choice : choices s (o .c) (copiesOf bs) ≡ [] → ⊥
 
-pub stocked-gathered : (s : Site) (o : Code) (r : ℕ) (x : Stripe) → Stocked s o r x → Gathered s o r (blocksOf x)
-stocked-gathered s o r empty h = none-gathered s o r
-stocked-gathered s o r (filling bs) h = h .0
-stocked-gathered s o r (sealed bs p) h = h .0
+-- a plan of its blocks from some start node on the map
+abbrev pub PlanOf : Site → Code → List Block → List ℕ → Type 0
+PlanOf s o bs p = (v : ℕ) × (v < length s) × (p ≡ planned s (o .n) (o .k) (o .c) (copiesOf bs) v)
 
--- a stripe that is not empty is one of the 32
-pub stripe-racked : (s : Site) (l : Ledger) (r : ℕ) → Sound s l → isEmpty (stripe l r) ≡ false → r < 32
-stripe-racked s l r h e =
-    elim (cases-lt r 32) [
-      | inl k ↦ k
-      | inr k ↦ let p : stripe l r ≡ empty = getD-past (l .stripes) r empty (omega (arith, h .full)) in absurd (true≢false (sym (ap isEmpty p) ∙ e))
-    ]
+abbrev pub StripeSound : Site → Code → Stripe → Type 0
+StripeSound s o empty = Unit {0}
+StripeSound s o (filling bs) = (1 ≤ length bs) × BlocksSound s o bs
+StripeSound s o (sealed bs p) = (length bs ≡ o .k) × BlocksSound s o bs × PlanOf s o bs p
 
-replicated : {X : Type 0} (n r : ℕ) (x : X) → getD (replicate n x) r x ≡ x
-replicated zero r x = refl
-replicated (suc n) zero x = refl
-replicated (suc n) (suc r) x = replicated n r x
+abbrev pub CodedSound : Site → Option Code → List Stripe → Type 0
+CodedSound s None ss = ss ≡ replicate 32 empty
+CodedSound s (Some o) ss = CodeSound s o × All (StripeSound s o) ss
 
-start-sound : (s : Site) → Sound s start
-start-sound s = record {
-  full = refl;
-  unset = λ _ r. replicated 32 r empty;
-  fit = λ o e. absurd (none-some o (sym e));
-  stocked = λ o e. absurd (none-some o (sym e));
-}
+pub record Sound (s : Site) (l : Ledger) : Type 0 where
+  pub long : length (l .stripes) ≡ 32
+  pub told : CodedSound s (l .code) (l .stripes)
 
--- one stripe is another
-put-sound : (s : Site) (o : Code) (l : Ledger) (r : ℕ) (x : Stripe) → Sound s l → l .code ≡ Some o → r < 32 → Stocked s o r x → Sound s (put l r x)
-put-sound s o l r x h c k g = record {
-  full = length-set (l .stripes) r x ∙ h .full;
-  unset = λ e. absurd (none-some o (sym c ∙ e));
-  fit = h .fit;
-  stocked = λ t e q.
-      elim (cases-eq q r) [
-        | inl i ↦
-            let same : o ≡ t = cc in
-            let here : getD (set (l .stripes) r x) r empty ≡ x = getD-set-same (l .stripes) r x empty (omega (arith, h .full)) in
-            let P : ℕ → Type 0 = λ j. Stocked s t j (getD (set (l .stripes) r x) j empty) in
-            let Q : Code → Type 0 = λ a. Stocked s a r x in
-            subst P (sym i) (subst (Stocked s t r) (sym here) (subst Q same g))
-        | inr i ↦ subst (Stocked s t q) (sym (getD-set-other (l .stripes) r q x empty i)) (h .stocked t e q)
-      ];
-}
+-- lists whose elements all pass
+pub all-or : {X : Type 0} (P : X → Type 0) (xs : List X) (i : ℕ) (d : X) → P d → All P xs → P (getD xs i d)
+all-or P [] i d p h = p
+all-or P (x ∷ xs) zero d p h = h .0
+all-or P (x ∷ xs) (suc i) d p h = all-or P xs i d p (h .1)
 
-module _ (s : Site) (limits : Limits s) where
-  -- one more block that is due and leaves a choice
-  offered : (o : Code) (l : Ledger) (b : ℕ) (vs : Copies) → Sound s l → l .code ≡ Some o → Due s o l b vs → none (choices s (o .c) (together s l vs)) ≡ false
-      → Sound s (noted s o l (offer b vs))
-  offered o l b vs h c d m =
-      let r : ℕ = core s vs in
-      let bs : List Block = blocksOf (stripe l r) in
-      let x : Block = record { number = b; copies = vs } in
-      let g : Gathered s o r bs = stocked-gathered s o r (stripe l r) (h .stocked o c r) in
-      let both : copiesOf (bs ++ x ∷ []) ≡ together s l vs = map-push (λ y. y .copies) bs x in
-      put-sound s o l r (filling (bs ++ x ∷ [])) h c (core-racked s limits vs (d .formed)) (
-        record {
-          formed = all-push (λ y. WellFormed s (y .copies)) bs x (g .formed) (d .formed);
-          home = all-push (λ y. core s (y .copies) ≡ r) bs x (g .home) refl;
-          few = rw (length-push bs x) (omega (arith, d .below));
-          choice = λ e. true≢false (sym (ap (λ y. none (choices s (o .c) y)) (sym both) ∙ ap none e) ∙ m);
-        },
-        rw (length-push bs x) (omega arith),
-      )
+pub all-same : {X : Type 0} (P : X → Type 0) (n : ℕ) (x : X) → P x → All P (replicate n x)
+all-same P zero x p = tt
+all-same P (suc n) x p = (p, all-same P n x p)
 
-  sealing : (o : Code) (l : Ledger) (r v : ℕ) → Sound s l → l .code ≡ Some o → r < 32 → v < length s → o .k ≤ length (blocksOf (stripe l r))
-      → Sound s (noted s o l (seal r v))
-  sealing o l r v h c k on enough =
-      let bs : List Block = blocksOf (stripe l r) in
-      let g : Gathered s o r bs = stocked-gathered s o r (stripe l r) (h .stocked o c r) in
-      put-sound s o l r (sealed bs (planned s (o .n) (o .k) (o .c) (copiesOf bs) v)) h c k (g, omega (arith, g .few), (v, on, refl))
+pub every-all : {X : Type 0} (f : X → Bool) (P : X → Type 0) (xs : List X) → ((x : X) → f x ≡ true → P x) → every f xs ≡ true → All P xs
+every-all f P [] h e = tt
+every-all f P (x ∷ xs) h e = let p = and-parts (f x) (every f xs) e in (h x (p .0), every-all f P xs h (p .1))
 
-  noted-sound : (o : Code) (l : Ledger) (call : Call) → Sound s l → l .code ≡ Some o → first (checks s o l call) ≡ None → Sound s (noted s o l call)
-  noted-sound o l (set-up n k c) h e m = absurd (none-some 21 m)
-  noted-sound o l (offer b vs) h e m = let d = offer-due s o l b vs m in offered o l b vs h e (d .0) (d .1)
-  noted-sound o l (seal r v) h e m =
-      let p = passed (checks s o l (seal r v)) m in
-      let k : r < 32 = omega (arith, ltb-false 31 r (p .0)) in
-      sealing o l r v h e k (ltb-true v (length s) (not-false (onMap s v) (p .1 .0))) (ltb-false (length (blocksOf (stripe l r))) (o .k) (p .1 .1 .1 .0))
-  noted-sound o l (plan r rows) h e m = h
-  noted-sound o l (deletions r rows) h e m = h
-  noted-sound o l (standing r vs w) h e m = h
-  noted-sound o l (release r) h e m =
-      let k : r < 32 = omega (arith, ltb-false 31 r (passed (checks s o l (release r)) m .0)) in
-      put-sound s o l r empty h e k tt
-  noted-sound o l (abandon r) h e m =
-      let k : r < 32 = omega (arith, ltb-false 31 r (passed (checks s o l (abandon r)) m .0)) in
-      put-sound s o l r empty h e k tt
+-- a list of checks none of which is met
+abbrev pub Unmet : List (Bool × ℕ) → Type 0
+Unmet [] = Unit {0}
+Unmet (c ∷ more) = (c .0 ≡ false) × Unmet more
 
-  coded-sound : (l : Ledger) (call : Call) → Sound s l → l .code ≡ None → first (fresh s call) ≡ None → Sound s (codeNoted l call)
-  coded-sound l (set-up n k c) h e m =
-      let p = passed (fresh s (set-up n k c)) m in
-      let new : Code = record { n = n; k = k; c = c } in
-      let fit : Fitting s new = record { within = code.within n k c (p .0); room = ltb-false _ n (p .1 .0) } in
+unmet-by : (b : Bool) (q : ℕ) (more : Option ℕ) → cond b (Some q) more ≡ None → (b ≡ false) × (more ≡ None)
+unmet-by true q more e = let z : _≡_ {A = ℕ} 0 1 = cc in absurd (omega arith)
+unmet-by false q more e = (refl, e)
+
+pub unmet : (cs : List (Bool × ℕ)) → first cs ≡ None → Unmet cs
+unmet [] e = tt
+unmet (c ∷ more) e = let p = unmet-by (c .0) (c .1) (first more) e in (p .0, unmet more (p .1))
+
+met-none : (q : ℕ) → _≡_ {A = Option ℕ} (Some q) None → ⊥
+met-none q e = let z : _≡_ {A = ℕ} 0 1 = cc in omega arith
+
+some-first : {A : Type 0} (xs : List A) → none xs ≡ false → xs ≡ [] → ⊥
+some-first [] e f = true≢false e
+some-first (x ∷ xs) e f = let z : _≡_ {A = ℕ} 0 1 = cc in omega arith
+
+module _ (s : Site) where
+  pub formed-of : (o : Code) (x : Stripe) → StripeSound s o x → All (λ b. WellFormed s (b .copies)) (blocksOf x)
+  formed-of o empty h = tt
+  formed-of o (filling bs) h = h .1 .formed
+  formed-of o (sealed bs p) h = h .1 .formed
+
+  -- the blocks of a stripe have a choice, also where there are none
+  pub choice-of : (o : Code) (x : Stripe) → StripeSound s o x → choices s (o .c) (copiesOf (blocksOf x)) ≡ [] → ⊥
+  choice-of o empty h e = let z : _≡_ {A = ℕ} 0 1 = cc in omega arith
+  choice-of o (filling bs) h e = h .1 .choice e
+  choice-of o (sealed bs p) h e = h .1 .choice e
+
+  -- a list that passes the checks of an offer
+  pub formed-by : (vs : Copies) → (ltb (length vs) 2 || ltb 8 (length vs)) ≡ false → not (every (onMap s) vs) ≡ false → not (apart vs) ≡ false
+      → not (every (λ v. not (eqb (rackOf s v) (core s vs))) (rest vs)) ≡ false → WellFormed s vs
+  formed-by vs a3 a4 a5 a6 =
+      let size = or-parts (ltb (length vs) 2) (ltb 8 (length vs)) a3 in
       record {
-        full = h .full;
-        unset = λ i. absurd (none-some new i);
-        fit = λ o i. let same : new ≡ o = cc in subst (Fitting s) same fit;
-        stocked = λ o i r. subst (Stocked s o r) (sym (h .unset e r)) tt;
+        enough = ltb-false (length vs) 2 (size .0);
+        few = ltb-false 8 (length vs) (size .1);
+        present = every-all (onMap s) (λ v. v < length s) vs (λ v t. ltb-true v (length s) t) (not-false _ a4);
+        differ = not-false _ a5;
+        away = every-all (λ v. not (eqb (rackOf s v) (core s vs))) (λ v. rackOf s v ≡ core s vs → ⊥) (rest vs) (λ v t. eqb-false (rackOf s v) (core s vs) (not-true _ t)) (not-false _ a6);
       }
-  coded-sound l (offer b vs) h e m = absurd (none-some 20 m)
-  coded-sound l (seal r v) h e m = absurd (none-some 20 m)
-  coded-sound l (plan r rows) h e m = absurd (none-some 20 m)
-  coded-sound l (deletions r rows) h e m = absurd (none-some 20 m)
-  coded-sound l (standing r vs w) h e m = absurd (none-some 20 m)
-  coded-sound l (release r) h e m = absurd (none-some 20 m)
-  coded-sound l (abandon r) h e m = absurd (none-some 20 m)
 
-  pub step-sound : (l : Ledger) (call : Call) → Sound s l → Sound s (step s l call)
-  step-sound l call h = by (refusedBy s l call) (l .code) refl refl
-    where
-      by : (q : Option ℕ) (t : Option Code) → refusedBy s l call ≡ q → l .code ≡ t → Sound s (step s l call)
-      by (Some q) t e c = subst (Sound s) (sym (step-refused s l call q e)) h
-      by None None e c = subst (Sound s) (sym (step-coded s l call e c)) (coded-sound l call h c (sym (uncoded s l call (first (fresh s call)) c refl) ∙ e))
-      by None (Some o) e c = subst (Sound s) (sym (step-noted s l call o e c)) (noted-sound o l call h c (sym (coded s l call o (first (checks s o l call)) c refl) ∙ e))
+  -- what an offer that is not refused has been checked for
+  offer-formed : (o : Code) (l : Ledger) (b : ℕ) (vs : Copies) → first (checks s o l (offer b vs)) ≡ None
+      → WellFormed s vs × (length (blocksOf (stripe l (core s vs))) < o .k) × (choices s (o .c) (copiesOf (blocksOf (stripe l (core s vs))) ++ (vs ∷ [])) ≡ [] → ⊥)
+  offer-formed o l b vs e =
+      let a3 = unmet (checks s o l (offer b vs)) e in
+      let a4 = a3 .1 in
+      let a5 = a4 .1 in
+      let a6 = a5 .1 in
+      let a23 = a6 .1 .1 in
+      (formed-by vs (a3 .0) (a4 .0) (a5 .0) (a6 .0), leb-false (o .k) (length (blocksOf (stripe l (core s vs)))) (a23 .0), some-first _ (a23 .1 .0))
 
-  after-sound : (h : List Call) (l : Ledger) → Sound s l → Sound s (folded (step s) l h)
-  after-sound [] l k = k
-  after-sound (call ∷ h) l k = after-sound h (step s l call) (step-sound l call k)
+  -- one record is another
+  put-sound : (o : Code) (l : Ledger) (r : ℕ) (x : Stripe) → l .code ≡ Some o → length (l .stripes) ≡ 32 → CodeSound s o → All (StripeSound s o) (l .stripes) → StripeSound s o x → Sound s (put l r x)
+  put-sound o l r x c n k h p = record {
+    long = length-set (l .stripes) r x ∙ n;
+    told = subst (λ t. CodedSound s t (set (l .stripes) r x)) (sym c) (k, all-set (StripeSound s o) (l .stripes) r x p h);
+  }
 
-  pub ledger-sound : (h : List Call) → Sound s (ledger s h)
-  ledger-sound h = after-sound h start (start-sound s)
+  -- a filling stripe of k blocks
+  seal-sound : (o : Code) (x : Stripe) (v : ℕ) → CodeSound s o → StripeSound s o x → isSealed x ≡ false → o .k ≤ length (blocksOf x) → v < length s
+      → StripeSound s o (sealed (blocksOf x) (planned s (o .n) (o .k) (o .c) (copiesOf (blocksOf x)) v))
+  seal-sound o empty v k h n e m = absurd (omega (arith, k .limits .0, e))
+  seal-sound o (filling bs) v k h n e m = (omega (arith, e, h .1 .few), h .1, (v, m, refl))
+  seal-sound o (sealed bs p) v k h n e m = absurd (true≢false n)
 
--- one call more
-pub ledger-push : (s : Site) (h : List Call) (call : Call) → ledger s (h ++ call ∷ []) ≡ step s (ledger s h) call
-ledger-push s h call = folded-push (step s) start h call
+  module _ (l : Ledger) (n : length (l .stripes) ≡ 32) where
+    sound-noted : (o : Code) (call : Call) → l .code ≡ Some o → CodeSound s o → All (StripeSound s o) (l .stripes) → Sound s l → first (checks s o l call) ≡ None → Sound s (noted s o l call)
+    sound-noted o (set-up m k c) e q h all e′ = absurd (met-none 21 e′)
+    sound-noted o (offer b vs) e q h all e′ =
+        let f = offer-formed o l b vs e′ in
+        let r = core s vs in
+        let x = stripe l r in
+        let own = blocksOf x in
+        let sx : StripeSound s o x = all-or (StripeSound s o) (l .stripes) r empty tt h in
+        let new : Block = record { number = b; copies = vs } in
+        let long = length-push own new in
+        put-sound o l r (filling (own ++ new ∷ [])) e n q h (
+          omega (arith, long),
+          record {
+            few = omega (arith, long, f .1);
+            formed = all-push (λ b. WellFormed s (b .copies)) own new (formed-of o x sx) (f .0);
+            choice = λ z. f .2 (ap (choices s (o .c)) (sym (map-push (λ y. y .copies) own new)) ∙ z);
+          },
+        )
+    sound-noted o (seal r v) e q h all e′ =
+        let a7 = unmet (checks s o l (seal r v)) e′ in
+        let a4 = a7 .1 in
+        let a26 = a4 .1 in
+        let a25 = a26 .1 in
+        let x = stripe l r in
+        put-sound o l r _ e n q h (seal-sound o x v q (all-or (StripeSound s o) (l .stripes) r empty tt h) (a26 .0) (ltb-false (length (blocksOf x)) (o .k) (a25 .0)) (ltb-true v (length s) (not-false _ (a4 .0))))
+    sound-noted o (plan r rows) e q h all e′ = all
+    sound-noted o (deletions r rows) e q h all e′ = all
+    sound-noted o (standing r vs w) e q h all e′ = all
+    sound-noted o (release r) e q h all e′ = put-sound o l r empty e n q h tt
+    sound-noted o (abandon r) e q h all e′ = put-sound o l r empty e n q h tt
+
+    sound-coded : (call : Call) → l .stripes ≡ replicate 32 empty → first (fresh s call) ≡ None → Sound s (codeNoted l call)
+    sound-coded (set-up m k c) z e =
+        let a1 = unmet (fresh s (set-up m k c)) e in
+        let a2 = a1 .1 in
+        let o : Code = record { n = m; k = k; c = c } in
+        record {
+          long = n;
+          told = (record { limits = within m k c (a1 .0); roomy = ltb-false (space s c) m (a2 .0) }, subst (All (StripeSound s o)) (sym z) (all-same (StripeSound s o) 32 empty tt));
+        }
+    sound-coded (offer b vs) z e = absurd (met-none 20 e)
+    sound-coded (seal r v) z e = absurd (met-none 20 e)
+    sound-coded (plan r rows) z e = absurd (met-none 20 e)
+    sound-coded (deletions r rows) z e = absurd (met-none 20 e)
+    sound-coded (standing r vs w) z e = absurd (met-none 20 e)
+    sound-coded (release r) z e = absurd (met-none 20 e)
+    sound-coded (abandon r) z e = absurd (met-none 20 e)
+
+  sound-by : (l : Ledger) (call : Call) (t : Option Code) → l .code ≡ t → CodedSound s t (l .stripes) → Sound s l → refusedBy s l call ≡ None → Sound s (step s l call)
+  sound-by l call None c k h e =
+      subst (Sound s) (sym (step-coded s l call e c)) (sound-coded l (h .long) call k (sym (uncoded s l call (first (fresh s call)) c refl) ∙ e))
+  sound-by l call (Some o) c k h e =
+      subst (Sound s) (sym (step-noted s l call o e c)) (sound-noted l (h .long) o call c (k .0) (k .1) h (sym (coded s l call o (first (checks s o l call)) c refl) ∙ e))
+
+  sound-step-by : (l : Ledger) (call : Call) (q : Option ℕ) → refusedBy s l call ≡ q → Sound s l → Sound s (step s l call)
+  sound-step-by l call (Some q) e h = subst (Sound s) (sym (step-refused s l call q e)) h
+  sound-step-by l call None e h = sound-by l call (l .code) refl (h .told) h e
+
+  pub sound-step : (l : Ledger) (call : Call) → Sound s l → Sound s (step s l call)
+  sound-step l call h = sound-step-by l call (refusedBy s l call) refl h
+
+  sound-all : (l : Ledger) (calls : List Call) → Sound s l → Sound s (folded (step s) l calls)
+  sound-all l [] h = h
+  sound-all l (c ∷ cs) h = sound-all (step s l c) cs (sound-step l c h)
+
+  pub ledger-sound : (calls : List Call) → Sound s (ledger s calls)
+  ledger-sound calls = sound-all start calls (record { long = refl; told = refl })

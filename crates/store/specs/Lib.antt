@@ -6,6 +6,4 @@ pub mod Promise
 pub mod Fitted
 pub mod Table
 pub mod Told
-pub mod Sound
 pub mod Runs
-pub mod Replies
