@@ -7,3 +7,6 @@ pub fn worked_examples() -> u8
 {
     0
 }
+
+#[cfg(test)]
+mod tests;
