@@ -1,1 +1,3 @@
 pub mod WantLaws
+pub mod RowLaws
+pub mod FieldLaws

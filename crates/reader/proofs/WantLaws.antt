@@ -7,7 +7,7 @@ use Prim.Native.Nat.{ℕ, _≤_, _<_}
 use native.Mathlib.Omega.{arith}
 use lib.Dec.{eqb}
 use lib.ListN.{length, getD}
-use Rattle.std.specs.Options.{Cases as BySome, isSome}
+use Rattle.std.specs.Options.{Cases as BySome, isSome, valueOr}
 use Rattle.std.specs.Written.{decimal}
 use Rattle.std.specs.Reads.{value}
 use Rattle.std.specs.declared.option.Option.{Option}
@@ -105,3 +105,8 @@ letter-of (b ∷ c ∷ bs) a e = let z : _≡_ {A = ℕ} 0 1 = cc in absurd (ome
 pub lettered : (bs : List ℕ) (r : Option Act) → r ≡ letter bs → Lettered bs r
 lettered bs None e = λ a is. (let f = letter-back a in let g = ap letter is in let z : _≡_ {A = ℕ} 0 1 = cc in omega arith)
 lettered bs (Some a) e = letter-of bs a (sym e)
+
+-- a field that fits is the text of the number that is read from it
+pub fit-number : (limit : ℕ) (bs : List ℕ) (r : Option ℕ) (v : ℕ) → Numbered limit bs r → v ≡ valueOr r 0 → (f : List ℕ) → bs ≡ f → Fit (Number limit) f → f ≡ decimal v
+fit-number limit bs None v n e f is fits = absurd (fits kind.Field (refl, λ u h g. n u h (is ∙ g)))
+fit-number limit bs (Some u) v n e f is fits = sym is ∙ n .1 ∙ ap decimal (sym e)

@@ -1,3 +1,3 @@
 pub mod Letters
 pub mod Wants
--- pub mod Rows
+pub mod Rows

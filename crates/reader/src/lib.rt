@@ -1,4 +1,4 @@
 // The three parts of a site sheet, read from bytes into values. What is wrong with them is told by the earliest fault.
 pub mod act;
 pub mod form;
-
+pub mod row;
