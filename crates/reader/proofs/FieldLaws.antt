@@ -1,7 +1,8 @@
 -- The field under a name.
 use mathlib.Core.Path.{_≡_, refl, sym, ap, subst, _∙_}
-use mathlib.Core.Bool.{Bool, true, false, cond}
-use mathlib.Core.List.{List, [], _∷_}
+use mathlib.Core.Bool.{Bool, true, false, cond, not, _&&_, _||_}
+use mathlib.Core.List.{List, [], _∷_, map}
+use mathlib.Core.Logic.{_⊎_, inl, inr}
 use Prim.Native.Nat.{ℕ, _+_, _≤_, _<_}
 use native.Mathlib.Omega.{arith}
 use denote.Ref.{RefT}
@@ -9,12 +10,18 @@ use lib.Dec.{eqb}
 use lib.ListN.{length}
 use Rattle.std.specs.declared.option.Option.{Option}
 use Rattle.std.specs.declared.option.Option.the-variants.{Some, None}
-use Rattle.std.proofs.shelf.Tests.{eq-eqb, ne-eqb}
+use Rattle.std.proofs.shelf.Tests.{eq-eqb, ne-eqb, and-parts, not-true, both-ways, or-left, or-right}
 use Rattle.text.specs.Cells.{Cell, cells, cellsFrom, NextToken}
+use Rattle.text.specs.Faults.{at}
+use Rattle.text.specs.Orders.{elem, distinct}
 use Rattle.text.specs.Pieces.{parted}
 use Rattle.text.specs.declared.place.Place.{Place}
 use Rattle.text.specs.declared.token.Token.the-variants as token
-use Rattle.reader.specs.Rows.{named}
+use Rattle.text.specs.declared.fault.Fault.{Fault}
+use Rattle.text.specs.declared.fault.FaultKind.the-variants.{Count}
+use Rattle.reader.specs.declared.form.Form.{Form}
+use Rattle.reader.specs.Wants.{wantOf, Fit}
+use Rattle.reader.specs.Rows.{named, FaultAt, RowFault, Clean}
 
 abbrev pub bytesOf : List Cell → List (List ℕ)
 bytesOf [] = []
@@ -36,3 +43,33 @@ module _ (i : ℕ) (is : List ℕ) (name : ℕ) where
   pub none-left : (cs after : List Cell) (line end line′ end′ : ℕ) (place : Place) → NextToken cs line end (token.End place) after line′ end′ → None ≡ named (i ∷ is) name (bytesOf cs)
   none-left [] after line end line′ end′ place t = refl
   none-left (c ∷ cs) after line end line′ end′ place t = absurd t
+
+-- a field under each name, and each is what is wanted
+abbrev pub FitsRow : Form → List ℕ → List (List ℕ) → Type 0
+FitsRow form [] [] = Unit {0}
+FitsRow form [] (f ∷ fs) = ⊥
+FitsRow form (i ∷ is) [] = ⊥
+FitsRow form (i ∷ is) (f ∷ fs) = Fit (wantOf form i) f × FitsRow form is fs
+
+fits-row : (form : Form) (line end : ℕ) (is : List ℕ) (cs : List Cell) → Clean (FaultAt form line end is cs) → FitsRow form is (bytesOf cs)
+fits-row form line end [] [] clean = tt
+fits-row form line end [] (c ∷ cs) clean = absurd (clean (at Count line (c .column)) (inl refl))
+fits-row form line end (i ∷ is) [] clean = absurd (clean (at Count line end) refl)
+fits-row form line end (i ∷ is) (c ∷ cs) clean = ((λ k m. clean (at k line (c .column)) (inl (k, m, refl))), fits-row form line end is cs (λ f h. clean f (inr h)))
+
+pub row-fits : (form : Form) (is : List ℕ) (line : ℕ) (bs : List ℕ) → Clean (RowFault form is line bs) → FitsRow form is (parted 44 bs)
+row-fits form is line bs clean = subst (FitsRow form is) (bytes-from 1 (parted 44 bs)) (fits-row form line (1 + length bs) is (cells bs) clean)
+
+-- where the field under each name is its text, the fields are the texts in the names' order
+pub row-text : (form : Form) (t : ℕ → List ℕ) (is : List ℕ) (fs : List (List ℕ)) → distinct is ≡ true → FitsRow form is fs → ((j : ℕ) (g : List ℕ) → elem j is ≡ true → named is j fs ≡ Some g → Fit (wantOf form j) g → g ≡ t j) → fs ≡ map t is
+row-text form t [] [] d fits said = refl
+row-text form t [] (f ∷ fs) d fits said = absurd fits
+row-text form t (i ∷ is) [] d fits said = absurd fits
+row-text form t (i ∷ is) (f ∷ fs) d fits said =
+    let new = not-true (elem i is) (and-parts _ _ d .0) in
+    let here : f ≡ t i = said i f (or-left (eqb i i) (elem i is) (eq-eqb i i refl)) (ap (λ b. cond b (Some f) (named is i fs)) (eq-eqb i i refl)) (fits .0) in
+    let more : fs ≡ map t is =
+      row-text form t is fs (and-parts _ _ d .1) (fits .1) (λ j g e n fit.
+          let other : i ≡ j → ⊥ = λ s. both-ways (elem i is) new (ap (λ k. elem k is) s ∙ e) in
+          said j g (or-right (eqb i j) (elem j is) e) (ap (λ b. cond b (Some f) (named is j fs)) (ne-eqb i j other) ∙ n) fit) in
+    (λ x. here x ∷ more x)

@@ -57,6 +57,10 @@ left-rises column (Some bytes) = pieces-rise column (bytes .now)
 pub lexer-rises : (l : Lexer) → Rises (l .place .column) (cellsLeft l) (endOf l)
 lexer-rises l = left-rises (l .place .column) (l .left)
 
+pub cells-rise : (bs : List ℕ) → Rises 1 (cells bs) (1 + length bs)
+cells-rise [] = tt
+cells-rise (b ∷ bs) = pieces-rise 1 (b ∷ bs)
+
 -- a fault that is told after a missing value at the same place is of a field that is not empty
 misfit-kind : (w : Want) (bs : List ℕ) (k : FaultKind) → Misfit w bs k → (numberOf k ≤ 12) ⊎ (0 < length bs)
 misfit-kind (Number limit) bs k m = inl (omega (arith, ap numberOf (m .0)))
@@ -161,3 +165,11 @@ module _ (form : Form) (line end : ℕ) where
   pub all-read : (cs after : List Cell) (line′ end′ : ℕ) (place : Place) → NextToken cs line end (token.End place) after line′ end′ → Clean (FaultAt form line end [] cs)
   all-read [] after line′ end′ place t f h = h
   all-read (c ∷ cs) after line′ end′ place t f h = absurd t
+
+pub row-line : (form : Form) (is : List ℕ) (line : ℕ) (bs : List ℕ) (f : Fault) → RowFault form is line bs f → f .place .line ≡ line
+row-line form is line bs f h = later form line (1 + length bs) 1 is (cells bs) f (cells-rise bs) h .0
+
+-- of an empty line the values are missing
+pub row-empty : (form : Form) (is : List ℕ) (line : ℕ) → 0 < length is → (f : Fault) → (RowFault form is line [] f → f ≡ at Count line 1) × (f ≡ at Count line 1 → RowFault form is line [] f)
+row-empty form [] line h f = absurd (omega arith)
+row-empty form (i ∷ is) line h f = ((λ e. e), λ e. e)

@@ -1,3 +1,5 @@
 pub mod Letters
 pub mod Wants
 pub mod Rows
+pub mod Names
+pub mod Codes
