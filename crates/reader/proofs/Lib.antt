@@ -4,3 +4,4 @@ pub mod FieldLaws
 pub mod NameLaws
 pub mod LineLaws
 pub mod CodeLaws
+pub mod ListingLaws

@@ -3,3 +3,4 @@ pub mod Wants
 pub mod Rows
 pub mod Names
 pub mod Codes
+pub mod Listings

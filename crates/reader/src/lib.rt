@@ -2,5 +2,6 @@
 pub mod act;
 pub mod code;
 pub mod form;
+pub mod listing;
 pub mod names;
 pub mod row;

@@ -1,0 +1,6 @@
+use Rattle.std.proofs.shelf.Results.{err-from-errBy}
+use Rattle.reader.proofs.ListingLaws.{node-read}
+use Rattle.reader.proofs.listing.read_node.Needs as need
+
+pub returns : need.returns
+returns c = node-read _ _ _ _ _ (c .pre) (c .in-Continue-check-row .ensures tt) (c .number-named-rack .ensures) (c .mark-named-mark .ensures)
