@@ -5,3 +5,5 @@ pub mod NameLaws
 pub mod LineLaws
 pub mod CodeLaws
 pub mod ListingLaws
+pub mod SiteLaws
+pub mod HeadLaws

@@ -101,7 +101,7 @@ node-read is n count line p (names, o) clean rack mark = record {
   said (suc (suc zero)) g h e fit = mark g e fit
   said (suc (suc (suc j))) g h e fit = absurd (omega arith)
 
-nodes-line : (is : List ℕ) (n count : ℕ) (ls : List (List ℕ)) (f : Fault) → NodesFault is n count ls f → n ≤ f .place .line
+pub nodes-line : (is : List ℕ) (n count : ℕ) (ls : List (List ℕ)) (f : Fault) → NodesFault is n count ls f → n ≤ f .place .line
 nodes-line is n count [] f h = absurd h
 nodes-line is n count ([] ∷ ls) f h = absurd h
 nodes-line is n count ((b ∷ bs) ∷ ls) f h = ⊎-elim (λ p. omega (arith, row-line (Node count) is n (b ∷ bs) f p)) (λ p. omega (arith, nodes-line is (n + 1) (count + 1) ls f p)) h

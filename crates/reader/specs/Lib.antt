@@ -4,3 +4,5 @@ pub mod Rows
 pub mod Names
 pub mod Codes
 pub mod Listings
+pub mod Sites
+pub mod Heads

@@ -2,6 +2,8 @@
 pub mod act;
 pub mod code;
 pub mod form;
+pub mod head;
 pub mod listing;
 pub mod names;
 pub mod row;
+pub mod sites;
