@@ -6,3 +6,5 @@ pub mod Codes
 pub mod Listings
 pub mod Sites
 pub mod Heads
+pub mod Calls
+pub mod SiteMaps
