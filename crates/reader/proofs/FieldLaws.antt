@@ -2,7 +2,7 @@
 use mathlib.Core.Path.{_≡_, refl, sym, ap, subst, _∙_}
 use mathlib.Core.Bool.{Bool, true, false, cond, not, _&&_, _||_}
 use mathlib.Core.List.{List, [], _∷_, map}
-use mathlib.Core.Logic.{_⊎_, inl, inr}
+use mathlib.Core.Logic.{_⊎_, inl, inr, ⊎-elim}
 use Prim.Native.Nat.{ℕ, _+_, _≤_, _<_}
 use native.Mathlib.Omega.{arith}
 use denote.Ref.{RefT}
@@ -10,7 +10,7 @@ use lib.Dec.{eqb}
 use lib.ListN.{length}
 use Rattle.std.specs.declared.option.Option.{Option}
 use Rattle.std.specs.declared.option.Option.the-variants.{Some, None}
-use Rattle.std.proofs.shelf.Tests.{eq-eqb, ne-eqb, and-parts, not-true, both-ways, or-left, or-right}
+use Rattle.std.proofs.shelf.Tests.{or-cases, eqb-true, eqb-false, cases-eq, eq-eqb, ne-eqb, and-parts, not-true, both-ways, or-left, or-right}
 use Rattle.text.specs.Cells.{Cell, cells, cellsFrom, NextToken}
 use Rattle.text.specs.Faults.{at}
 use Rattle.text.specs.Orders.{elem, distinct}
@@ -73,3 +73,16 @@ row-text form t (i ∷ is) (f ∷ fs) d fits said =
           let other : i ≡ j → ⊥ = λ s. both-ways (elem i is) new (ap (λ k. elem k is) s ∙ e) in
           said j g (or-right (eqb i j) (elem j is) e) (ap (λ b. cond b (Some f) (named is j fs)) (ne-eqb i j other) ∙ n) fit) in
     (λ x. here x ∷ more x)
+
+-- the field under a name that is there
+pub named-fits : (form : Form) (j : ℕ) (is : List ℕ) (fs : List (List ℕ)) → elem j is ≡ true → FitsRow form is fs → (g : List ℕ) × (named is j fs ≡ Some g) × Fit (wantOf form j) g
+named-fits form j [] fs e fits = absurd (both-ways false refl e)
+named-fits form j (i ∷ is) [] e fits = absurd fits
+named-fits form j (i ∷ is) (f ∷ fs) e fits =
+    ⊎-elim
+    (λ p. (f, ap (λ b. cond b (Some f) (named is j fs)) (eq-eqb i j p), subst (λ k. Fit (wantOf form k) f) p (fits .0)))
+    (λ p.
+        let other : eqb i j ≡ false = ne-eqb i j p in
+        let more = named-fits form j is fs (⊎-elim (λ q. absurd (both-ways (eqb i j) other q)) (λ q. q) (or-cases (eqb i j) (elem j is) e)) (fits .1) in
+        (more .0, ap (λ b. cond b (Some f) (named is j fs)) other ∙ more .1, more .2))
+    (cases-eq i j)

@@ -7,3 +7,4 @@ pub mod CodeLaws
 pub mod ListingLaws
 pub mod SiteLaws
 pub mod HeadLaws
+pub mod CallLaws

@@ -37,7 +37,7 @@ use Rattle.reader.specs.Listings.{NodeOrder, NodesFault, NodeText, nodeText, N
 use Rattle.reader.proofs.LineLaws.{line-is, line-none, no-bytes}
 use Rattle.reader.proofs.RowLaws.{Same, row-line, clean-same}
 use Rattle.reader.proofs.FieldLaws.{FitsRow, row-fits, row-text}
-use Rattle.reader.proofs.NameLaws.{order-names}
+use Rattle.reader.proofs.NameLaws.{order-names, has-all}
 use Rattle.reader.proofs.CodeLaws.{ReadAs}
 
 -- a field that fits is the text of the mark that is read from it
@@ -60,18 +60,6 @@ fit-few count bs fit = ⊎-elim (λ h. h) (λ h. absurd (by (cases-bool (isNumbe
       (λ t. fit kind.Field (inl (refl, λ v l e. both-ways _ t (number-taken 4294967295 bs v (omega arith) l e))))
       t
 
--- three names, each once, are all three
-has-node : (is : List ℕ) → length is ≡ 3 → distinct is ≡ true → All (λ i. i < 3) is → elem 0 is ≡ true
-has-node [] l d a = absurd (omega arith)
-has-node (x ∷ []) l d a = absurd (omega arith)
-has-node (x ∷ y ∷ []) l d a = absurd (omega arith)
-has-node (x ∷ y ∷ z ∷ []) l d a =
-    let p = a .0 in
-    let q = a .1 .0 in
-    let r = a .1 .1 .0 in
-    grind (arith, tells, p, q, r, d)
-has-node (x ∷ y ∷ z ∷ w ∷ is) l d a = absurd (omega arith)
-
 row-few : (count : ℕ) (is : List ℕ) (fs : List (List ℕ)) → elem 0 is ≡ true → FitsRow (Node count) is fs → count ≤ 255
 row-few count [] fs e fits = absurd (both-ways false refl e)
 row-few count (i ∷ is) [] e fits = absurd fits
@@ -87,7 +75,7 @@ node-read is n count line p (names, o) clean rack mark = record {
   fits : FitsRow (Node count) is (parted 44 line)
   fits = row-fits (Node count) is n line clean
   few : count ≤ 255
-  few = row-few count is (parted 44 line) (has-node is (o .all) (o .once) (o .names)) fits
+  few = row-few count is (parted 44 line) (has-all is (o .all) (o .once) (o .names) 0 (omega arith)) fits
   said : (j : ℕ) (g : List ℕ) → j < 3 → named is j (parted 44 line) ≡ Some g → Fit (wantOf (Node count) j) g → g ≡ nodeText count p j
   said zero g h e fit = own g (cases-bool (isNumber 4294967295 g)) fit where
     own : (g : List ℕ) → (isNumber 4294967295 g ≡ true) ⊎ (isNumber 4294967295 g ≡ false) → Fit (Next count) g → g ≡ decimal count

@@ -18,6 +18,8 @@ use Rattle.site.specs.declared.Mark.{Mark}
 use Rattle.site.specs.declared.Mark.the-variants.{Yes, No}
 use Rattle.text.specs.Numbers.{Numbered, isNumber}
 use Rattle.text.specs.NodeLists.{nodeList, kept, Listed}
+use Rattle.text.specs.Spaced.{spaced}
+use Rattle.std.specs.shelf.Lists.{All}
 use Rattle.text.specs.declared.nodes.NodeList.{NodeList}
 use Rattle.text.proofs.NumberLaws.{number-is, number-taken, exact-is}
 use Rattle.text.specs.declared.fault.FaultKind.{FaultKind}
@@ -110,3 +112,22 @@ lettered bs (Some a) e = letter-of bs a (sym e)
 pub fit-number : (limit : ℕ) (bs : List ℕ) (r : Option ℕ) (v : ℕ) → Numbered limit bs r → v ≡ valueOr r 0 → (f : List ℕ) → bs ≡ f → Fit (Number limit) f → f ≡ decimal v
 fit-number limit bs None v n e f is fits = absurd (fits kind.Field (refl, λ u h g. n u h (is ∙ g)))
 fit-number limit bs (Some u) v n e f is fits = sym is ∙ n .1 ∙ ap decimal (sym e)
+
+pub within-limit : (limit : ℕ) (bs : List ℕ) (r : Option ℕ) (v : ℕ) → Numbered limit bs r → v ≡ valueOr r 0 → v ≤ limit
+within-limit limit bs None v n e = omega arith
+within-limit limit bs (Some u) v n e = omega (arith, n .0)
+
+-- so is the list of nodes, the call of a letter, and the empty text
+pub fit-nodes : (bs : List ℕ) (o : Option (List ℕ)) (res : Option NodeList) (r none : NodeList) → Listed bs o → res ≡ kept o → r ≡ valueOr res none → (f : List ℕ) → bs ≡ f → Fit Nodes f → (vs : List ℕ) × All (λ v. v ≤ 65535) vs × (Some r ≡ kept (Some vs)) × (f ≡ spaced vs)
+fit-nodes bs None res r none l e g f is fits = absurd (fits kind.Field (refl, λ vs a h. l vs a (is ∙ h)))
+fit-nodes bs (Some vs) res r none l e g f is fits = (vs, l .0, ap Some (g ∙ ap (λ o. valueOr o none) e), sym is ∙ l .1)
+
+pub fit-letter : (f : List ℕ) → Fit Letter f → (a : Act) × (letter f ≡ Some a) × (f ≡ letterOf a)
+fit-letter f fits = by (letter f) refl where
+  by : (o : Option Act) → letter f ≡ o → (a : Act) × (letter f ≡ Some a) × (f ≡ letterOf a)
+  by None e = absurd (fits kind.Field (refl, lettered f None (sym e)))
+  by (Some a) e = (a, e, lettered f (Some a) (sym e))
+
+pub fit-nothing : (f : List ℕ) → Fit Nothing f → f ≡ []
+fit-nothing [] fits = refl
+fit-nothing (b ∷ f) fits = absurd (fits kind.Field (refl, λ e. let z : _≡_ {A = ℕ} 0 1 = cc in omega arith))

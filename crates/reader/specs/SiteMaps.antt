@@ -3,31 +3,38 @@ use mathlib.Core.Path.{_≡_}
 use mathlib.Core.List.{List}
 use Prim.Native.Nat.{ℕ}
 use denote.Ref.{now}
-use lib.ListN.{take}
-use Rattle.std.specs.declared.result.Result.{Result}
-use Rattle.std.specs.declared.result.Result.the-variants.{Ok, Err}
 use Rattle.site.specs.Site.{Site, Place, Limits}
 use Rattle.site.specs.Maps.{Fit, regular, listed}
 use Rattle.site.specs.Limits.{regular-limits, listed-limits}
-use Rattle.site.specs.declared.regular.OutsideRegular.{OutsideRegular}
+use Rattle.reader.specs.declared.maps.SiteKind.{SiteKind}
+use Rattle.reader.specs.declared.maps.SiteKind.the-variants.{Regular, Listed}
 use Rattle.reader.specs.declared.maps.SheetMap.{SheetMap}
-use Rattle.reader.specs.declared.maps.SheetMap.the-variants.{Regular, Listed}
-use Rattle.reader.specs.declared.maps.SiteFault.{SiteFault}
-use Rattle.reader.specs.declared.maps.SiteFault.the-variants.{Read, Refused}
 use Rattle.reader.specs.declared.sites.SiteValues.{SiteValues}
 use Rattle.reader.specs.declared.sites.SiteValues.the-variants as values
 
+-- a regular site by its map, a listing by the table's meaning
+abbrev pub kindMeaning : SiteKind → Site → Site
+kindMeaning (Regular m) table = regular (m .racks) (m .each)
+kindMeaning Listed table = table
+
 abbrev pub mapMeaning : SheetMap → Site
-mapMeaning (Regular m) = regular (m .racks) (m .each)
-mapMeaning (Listed m) = listed (now (m .entries))
+mapMeaning m = kindMeaning (m .kind) (listed (now (m .table .entries)))
+
+kind-limits : (k : SiteKind) (s : Site) → Limits s → Limits (kindMeaning k s)
+kind-limits (Regular m) s l = regular-limits (m .racks) (m .each) (m .fits)
+kind-limits Listed s l = l
 
 pub map-limits : (m : SheetMap) → Limits (mapMeaning m)
-map-limits (Regular m) = regular-limits (m .racks) (m .each) (m .fits)
-map-limits (Listed m) = listed-limits (now (m .entries))
+map-limits m = kind-limits (m .kind) (listed (now (m .table .entries))) (listed-limits (now (m .table .entries)))
 
--- the map of a site that was read, or that its two numbers fit no map
-abbrev pub Mapped : SiteValues → List Place → Result SheetMap SiteFault → Type 0
-Mapped (values.Regular racks each) table (Ok m) = Fit racks each × (mapMeaning m ≡ regular racks each)
-Mapped (values.Regular racks each) table (Err f) = (Fit racks each → ⊥) × (f ≡ Refused (record {}) 5)
-Mapped (values.Listed nodes) table (Ok m) = mapMeaning m ≡ listed (take nodes table)
-Mapped (values.Listed nodes) table (Err f) = ⊥
+-- the kind of a site that was read
+abbrev pub KindOf : SiteValues → SiteKind → Type 0
+KindOf (values.Regular racks each) (Regular m) = Fit racks each × (regular (m .racks) (m .each) ≡ regular racks each)
+KindOf (values.Regular racks each) Listed = ⊥
+KindOf (values.Listed nodes) (Regular m) = ⊥
+KindOf (values.Listed nodes) Listed = Unit {0}
+
+-- its two numbers fit no map
+abbrev pub NoMap : SiteValues → Type 0
+NoMap (values.Regular racks each) = Fit racks each → ⊥
+NoMap (values.Listed nodes) = ⊥

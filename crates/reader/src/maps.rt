@@ -1,7 +1,8 @@
-// The map of a sheet's site, and the faults of code and site together with the map's refusal.
+// The map of a sheet's site.
 ghost use mathlib.Core.Path.{_≡_};
-ghost use Rattle.reader.specs.SiteMaps.{mapMeaning, map-limits, Mapped};
-ghost use Rattle.reader.specs.declared.maps.SiteFault.the-variants.{Read};
+ghost use Rattle.site.specs.Maps.{listed};
+ghost use Rattle.reader.specs.SiteMaps.{kindMeaning, mapMeaning, map-limits, KindOf, NoMap};
+ghost use Rattle.std.specs.Results.{Cases};
 use crate::sites::SiteValues;
 use site::Mark;
 use site::Node;
@@ -12,31 +13,40 @@ use site::listed::ListedSiteMap;
 use site::regular::OutsideRegular;
 use site::regular::RegularMap;
 use site::regular::RegularSiteMap;
-use text::fault::Fault;
 
-/// The line of the site's value line, where it has one.
-pub const SITE_LINE: u32 = 5;
-
-/// What stops a sheet before its store is set up: a reader's fault, or the map's refusal and the line it is told at.
+/// The kind of a site, with the map of a regular one.
 #[derive(Clone, Copy)]
-pub enum SiteFault {
-    Read(Fault),
-    Refused(OutsideRegular, u32),
+pub enum SiteKind {
+    Regular(RegularMap),
+    Listed,
 }
 
-pub impl From<Fault> for SiteFault as SiteFromRead {
-    ghost converts = { λ f r. r ≡ Read f };
-
-    fn from(fault: Fault) -> SiteFault {
-        SiteFault::Read(fault)
+/// The kind of a site that was read, where its two numbers fit a map.
+pub fn site_kind(site: SiteValues) -> Result<SiteKind, OutsideRegular>
+    ensures { λ r. ⌜ Cases r (KindOf site) (λ _. NoMap site) ⌝ }
+{
+    match site {
+        SiteValues::Regular { racks, each } => {
+            let map = RegularMap::new(racks, each)?;
+            Ok(SiteKind::Regular(map))
+        }
+        SiteValues::Listed { nodes: _ } => Ok(SiteKind::Listed),
     }
 }
 
-/// The map of either kind of site.
+/// The map of either kind of site. The table is read where the site is a listing.
 #[derive(Clone, Copy)]
-pub enum SheetMap<'a> {
-    Regular(RegularMap),
-    Listed(ListedMap<'a>),
+pub struct SheetMap<'a> {
+    kind: SiteKind,
+    table: ListedMap<'a>,
+}
+
+impl<'a> SheetMap<'a> {
+    pub fn new(kind: SiteKind, places: &'a [(Rack, Mark)]) -> SheetMap<'a>
+        ensures { λ r. ⌜ mapMeaning r ≡ kindMeaning kind (listed (now (places .entry))) ⌝ }
+    {
+        SheetMap { kind, table: ListedMap::new(places) }
+    }
 }
 
 pub impl SiteMap for SheetMap<'_> as SheetSiteMap {
@@ -45,29 +55,16 @@ pub impl SiteMap for SheetMap<'_> as SheetSiteMap {
     ghost limits = { λ m. map-limits m };
 
     fn nodes(&self) -> u16 {
-        match self {
-            SheetMap::Regular(map) => map.nodes(),
-            SheetMap::Listed(map) => map.nodes(),
+        match self.kind {
+            SiteKind::Regular(map) => map.nodes(),
+            SiteKind::Listed => self.table.nodes(),
         }
     }
 
     fn node(&self, v: Node) -> Option<(Rack, Mark)> {
-        match self {
-            SheetMap::Regular(map) => map.node(v),
-            SheetMap::Listed(map) => map.node(v),
+        match self.kind {
+            SiteKind::Regular(map) => map.node(v),
+            SiteKind::Listed => self.table.node(v),
         }
-    }
-}
-
-/// The map of a site that was read; a listing's places are in the table.
-pub fn sheet_map<'a>(site: SiteValues, table: &'a [(Rack, Mark)]) -> Result<SheetMap<'a>, SiteFault>
-    ensures { λ r. ⌜ Mapped site (now (table .entry)) r ⌝ }
-{
-    match site {
-        SiteValues::Regular { racks, each } => match RegularMap::new(racks, each) {
-            Ok(map) => Ok(SheetMap::Regular(map)),
-            Err(refusal) => Err(SiteFault::Refused(refusal, SITE_LINE)),
-        },
-        SiteValues::Listed { nodes } => Ok(SheetMap::Listed(ListedMap::new(&table[0..nodes as usize]))),
     }
 }

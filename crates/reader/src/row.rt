@@ -1,7 +1,7 @@
 // One value line: its earliest fault, and the fields under its names.
 ghost use mathlib.Core.Path.{_≡_};
 ghost use mathlib.Core.List.{List};
-ghost use Prim.Native.Nat.{ℕ};
+ghost use Prim.Native.Nat.{ℕ, _≤_};
 ghost use lib.ListN.{take};
 ghost use Rattle.std.specs.Results.{Cases};
 ghost use Rattle.std.specs.Written.{decimal};
@@ -60,7 +60,8 @@ pub fn field_named<'a>(line: Line<'a>, order: &[usize], name: usize) -> Option<&
 
 /// The number under a name, or 0 where there is none.
 pub fn number_named(line: Line, order: &[usize], name: usize, limit: u32) -> u32
-    ensures { λ r. ⌜ ((f : List ℕ) → named (now (order .entry)) name (parted 44 (take 65536 (now (line .entry .bytes)))) ≡ Some f → Fit (Want.Number limit) f → f ≡ decimal r) ⌝ }
+    ensures text { λ r. ⌜ ((f : List ℕ) → named (now (order .entry)) name (parted 44 (take 65536 (now (line .entry .bytes)))) ≡ Some f → Fit (Want.Number limit) f → f ≡ decimal r) ⌝ }
+    ensures within { λ r. ⌜ r ≤ limit ⌝ }
 {
     let Some(field) = field_named(line, order, name) else {
         return 0;
