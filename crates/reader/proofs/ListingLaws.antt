@@ -14,9 +14,11 @@ use Rattle.std.specs.shelf.Lists.{All}
 use Rattle.std.specs.declared.option.Option.{Option}
 use Rattle.std.specs.declared.option.Option.the-variants.{Some, None}
 use Rattle.std.proofs.shelf.Lists.{take-more-set, drop-set-lt, drop-drop, take-all}
-use Rattle.std.proofs.shelf.Tests.{cases-bool, both-ways, cases-eq, cases-lt, eqb-true, or-cases, eq-eqb}
+use Rattle.std.proofs.shelf.Tests.{cases-bool, both-ways, cases-eq, cases-lt, eqb-true, or-cases, eq-eqb, lt-ltb}
 use Rattle.std.proofs.shelf.Ways.{tells}
+use Rattle.std.proofs.shelf.Elements.{all-push}
 use Rattle.site.specs.Site.{Place}
+use Rattle.site.specs.Maps.{window, listed}
 use Rattle.site.specs.declared.Mark.{Mark}
 use Rattle.text.specs.Faults.{at, numberOf, NotAfter, Least}
 use Rattle.text.specs.Numbers.{isNumber}
@@ -66,11 +68,12 @@ row-few count (i ∷ is) [] e fits = absurd fits
 row-few count (i ∷ is) (f ∷ fs) e fits =
     ⊎-elim (λ p. fit-few count f (subst (λ j. Fit (wantOf (Node count) j) f) (eqb-true i 0 p) (fits .0))) (λ p. row-few count is fs p (fits .1)) (or-cases (eqb i 0) (elem 0 is) e)
 
-pub node-read : (is : List ℕ) (n count : ℕ) (line : List ℕ) (p : Place) → NodeOrder is → Clean (RowFault (Node count) is n line) → ReadAs is (parted 44 line) 1 31 (p .0 .0) → ((f : List ℕ) → named is 2 (parted 44 line) ≡ Some f → Fit Keep f → f ≡ markText (p .1)) → NodeRead is n count line p
-node-read is n count line p (names, o) clean rack mark = record {
+pub node-read : (is : List ℕ) (n count : ℕ) (line : List ℕ) (p : Place) → NodeOrder is → Clean (RowFault (Node count) is n line) → ReadAs is (parted 44 line) 1 31 (p .0 .0) → p .0 .0 ≤ 31 → ((f : List ℕ) → named is 2 (parted 44 line) ≡ Some f → Fit Keep f → f ≡ markText (p .1)) → NodeRead is n count line p
+node-read is n count line p (names, o) clean rack low mark = record {
   clean = clean;
   text = row-text (Node count) (nodeText count p) is (parted 44 line) (o .once) fits (λ j g e. said j g (order-names nodeNames names is o j e));
   few = few;
+  racked = omega (arith, low);
 } where
   fits : FitsRow (Node count) is (parted 44 line)
   fits = row-fits (Node count) is n line clean
@@ -128,6 +131,24 @@ front-more table i p ps h = ap (λ l. l ++ ps) (take-more-set table i p h) ∙ a
 pub back-more : (was table : List Place) (i : ℕ) (p : Place) → drop i table ≡ drop i was → drop (i + 1) (set table i p) ≡ drop (i + 1) was
 back-more was table i p e = drop-set-lt (i + 1) table i p (omega arith) ∙ sym (drop-drop 1 i table) ∙ ap (drop 1) e ∙ drop-drop 1 i was
 
+pub racked-more : (table : List Place) (i : ℕ) (p : Place) → i < length table → All (λ q. q .0 .0 < 32) (take i table) → p .0 .0 < 32 → All (λ q. q .0 .0 < 32) (take (i + 1) (set table i p))
+racked-more table i p h a r = subst (All (λ q. q .0 .0 < 32)) (sym (take-more-set table i p h)) (all-push (λ q. q .0 .0 < 32) (take i table) p a r)
+
+window-whole : (n : ℕ) (ps : List Place) → length ps ≤ n → All (λ p. p .0 .0 < 32) ps → window n ps ≡ ps
+window-whole zero [] h a = refl
+window-whole zero (p ∷ ps) h a = absurd (omega arith)
+window-whole (suc n) [] h a = refl
+window-whole (suc n) (p ∷ ps) h a = ap (λ b. cond b (p ∷ window n ps) []) (lt-ltb (p .0 .0) 32 (a .0)) ∙ ap (λ l. p ∷ l) (window-whole n ps (omega arith) (a .1))
+
+length-front : (n : ℕ) (ps : List Place) → length (take n ps) ≤ n
+length-front zero ps = omega arith
+length-front (suc n) [] = omega arith
+length-front (suc n) (p ∷ ps) = omega (arith, length-front n ps)
+
+-- a listed map over places that were read means just those
+pub listed-whole : (n : ℕ) (table : List Place) → n ≤ 256 → All (λ p. p .0 .0 < 32) (take n table) → listed (take n table) ≡ take n table
+listed-whole n table h a = window-whole 256 (take n table) (omega (arith, length-front n table)) a
+
 -- one turn: a line that is not empty was read
 module _ (is : List ℕ) (n count : ℕ) (ls : List (List ℕ)) (line : Line) (after : List (List ℕ)) (m : ℕ) (t : NextLine ls n (Some line) after m) (short : length (line .bytes .now) ≤ 65536) (some : 0 < length (line .bytes .now)) where
   lines-are : ls ≡ line .bytes .now ∷ after
@@ -155,12 +176,13 @@ module _ (is : List ℕ) (n count : ℕ) (ls : List (List ℕ)) (line : Line) (a
       (e .0 ∙ ap pastPart (sym lines-are), ap (λ k. pastNumber k after) (line-is ls n line after m t .2) ∙ e .1 ∙ ap (pastNumber n) (sym lines-are))
 
 -- the listing is read as far as it goes
-module _ (is : List ℕ) (n₀ : ℕ) (ls₀ : List (List ℕ)) (was table : List Place) (count n : ℕ) (ls : List (List ℕ)) (same : Same (NodesFault is n count ls) (NodesFault is n₀ 0 ls₀)) (said : (ps : List Place) → NodesText is count ls ps → NodesText is 0 ls₀ (take count table ++ ps)) (back : drop count table ≡ drop count was) (past : pastPart ls ≡ pastPart ls₀) (number : pastNumber n ls ≡ pastNumber n₀ ls₀) (few : count ≤ 256) (after : List (List ℕ)) (m : ℕ) where
+module _ (is : List ℕ) (n₀ : ℕ) (ls₀ : List (List ℕ)) (was table : List Place) (count n : ℕ) (ls : List (List ℕ)) (same : Same (NodesFault is n count ls) (NodesFault is n₀ 0 ls₀)) (said : (ps : List Place) → NodesText is count ls ps → NodesText is 0 ls₀ (take count table ++ ps)) (back : drop count table ≡ drop count was) (past : pastPart ls ≡ pastPart ls₀) (number : pastNumber n ls ≡ pastNumber n₀ ls₀) (few : count ≤ 256) (racked : All (λ p. p .0 .0 < 32) (take count table)) (after : List (List ℕ)) (m : ℕ) where
   all-read : Clean (NodesFault is n count ls) → NodesText is count ls [] → after ≡ pastPart ls → m ≡ pastNumber n ls → NodesRead is n₀ ls₀ count was table after m
   all-read clean text e f = record {
     clean = clean-same (NodesFault is n count ls) (NodesFault is n₀ 0 ls₀) same clean;
     text = subst (NodesText is 0 ls₀) (append-nil (take count table)) (said [] text);
     few = few;
+    racked = racked;
     back = back;
     after-it = e ∙ past;
     next = f ∙ number;

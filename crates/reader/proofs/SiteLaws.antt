@@ -30,6 +30,7 @@ use Rattle.reader.proofs.LineLaws.{line-is, line-none, no-bytes}
 use Rattle.reader.proofs.FieldLaws.{row-fits, row-text}
 use Rattle.reader.proofs.NameLaws.{regular-apart, node-apart, one-order, order-some, order-names, order-fields}
 use Rattle.reader.proofs.CodeLaws.{ReadAs}
+use Rattle.reader.proofs.ListingLaws.{listed-whole}
 
 pub regular-ends : (ls : List (List ℕ)) (n : ℕ) (line : Line) (after : List (List ℕ)) (m : ℕ) → NextLine ls n (Some line) after m → length (line .bytes .now) ≡ 0 → RegularEnd ls n (Ok tt) after m
 regular-ends [] n line after m t e = absurd t
@@ -165,7 +166,7 @@ module _ (ls : List (List ℕ)) (n : ℕ) (names : Line) (mid : List (List ℕ))
       record {
         clean = clean-same (NodesFault is m 0 mid) (SiteFault n ls) (listed-faults is o) (r .clean);
         text = subst (λ l. SiteText l (Listed nodes) table) (sym lines-are) (is, o, r .text);
-        kept = (r .few, r .back);
+        kept = (r .few, r .back, listed-whole nodes table (r .few) (r .racked));
         after-it = r .after-it ∙ p .0;
         next = r .next ∙ p .1;
       }

@@ -8,3 +8,4 @@ pub mod Sites
 pub mod Heads
 pub mod Calls
 pub mod SiteMaps
+pub mod Openings

@@ -7,6 +7,7 @@ use Prim.Native.Nat.{ℕ, _+_, _<_, _≤_}
 use lib.Dec.{eqb}
 use lib.ListN.{length, take, drop}
 use Rattle.std.specs.Written.{decimal}
+use Rattle.std.specs.shelf.Lists.{All}
 use Rattle.site.specs.Site.{Place}
 use Rattle.text.specs.Pieces.{parted}
 use Rattle.text.specs.declared.fault.Fault.{Fault}
@@ -58,12 +59,14 @@ pub record NodeRead (is : List ℕ) (n count : ℕ) (line : List ℕ) (p : Place
   pub clean : Clean (RowFault (Node count) is n line)
   pub text : NodeText is count line p
   pub few : count ≤ 255
+  pub racked : p .0 .0 < 32
 
 -- a listing without fault: the table's front has its places, the rest is as it was, and this follows it
 pub record NodesRead (is : List ℕ) (n : ℕ) (ls : List (List ℕ)) (count : ℕ) (was table : List Place) (after : List (List ℕ)) (m : ℕ) : Type 0 where
   pub clean : Clean (NodesFault is n 0 ls)
   pub text : NodesText is 0 ls (take count table)
   pub few : count ≤ 256
+  pub racked : All (λ p. p .0 .0 < 32) (take count table)
   pub back : drop count table ≡ drop count was
   pub after-it : after ≡ pastPart ls
   pub next : m ≡ pastNumber n ls

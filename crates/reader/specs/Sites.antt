@@ -8,6 +8,7 @@ use Rattle.std.specs.Written.{decimal}
 use Rattle.std.specs.declared.result.Result.{Result}
 use Rattle.std.specs.declared.result.Result.the-variants.{Ok, Err}
 use Rattle.site.specs.Site.{Place}
+use Rattle.site.specs.Maps.{listed}
 use Rattle.text.specs.Faults.{at}
 use Rattle.text.specs.Pieces.{parted}
 use Rattle.text.specs.declared.fault.Fault.{Fault}
@@ -43,10 +44,10 @@ abbrev pub SiteText : List (List ℕ) → SiteValues → List Place → Type 0
 SiteText ls (Regular racks each) table = (is : List ℕ) × InOrder regularNames (getD ls 0 []) is × RegularText is (getD ls 1 []) racks each
 SiteText ls (Listed nodes) table = (is : List ℕ) × InOrder nodeNames (getD ls 0 []) is × NodesText is 0 (drop 1 ls) (take nodes table)
 
--- the table past what was written
+-- the table past what was written is as it was, and a listed map over what was written means just that
 abbrev pub Kept : SiteValues → List Place → List Place → Type 0
 Kept (Regular racks each) was table = table ≡ was
-Kept (Listed nodes) was table = (nodes ≤ 256) × (drop nodes table ≡ drop nodes was)
+Kept (Listed nodes) was table = (nodes ≤ 256) × (drop nodes table ≡ drop nodes was) × (listed (take nodes table) ≡ take nodes table)
 
 -- a regular site's lines without fault
 pub record RegularRead (is : List ℕ) (n : ℕ) (ls : List (List ℕ)) (racks each : ℕ) (after : List (List ℕ)) (m : ℕ) : Type 0 where

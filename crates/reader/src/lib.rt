@@ -7,5 +7,6 @@ pub mod head;
 pub mod listing;
 pub mod maps;
 pub mod names;
+pub mod opening;
 pub mod row;
 pub mod sites;

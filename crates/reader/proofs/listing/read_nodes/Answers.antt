@@ -12,7 +12,7 @@ use Rattle.text.specs.Rows.{leftOf}
 use Rattle.reader.specs.Listings.{NodesFault, NodesText}
 use Rattle.reader.proofs.LineLaws.{line-is}
 use Rattle.reader.proofs.RowLaws.{same-then, least-same}
-use Rattle.reader.proofs.ListingLaws.{turn-wrong, turn-right, turn-said, turn-past, front-more, back-more, read-to-end, read-to-empty}
+use Rattle.reader.proofs.ListingLaws.{turn-wrong, turn-right, turn-said, turn-past, front-more, back-more, racked-more, read-to-end, read-to-empty}
 use Rattle.reader.proofs.listing.read_nodes.Needs as need
 
 not-zero : (n : ℕ) → (n ≡ 0 → ⊥) → 0 < n
@@ -22,7 +22,7 @@ pub returns-then-is-empty : need.returns-then-is-empty
 returns-then-is-empty c =
     let i = c .loop-line .inv in
     let l = c .loop-line .lines in
-    read-to-empty (c .args .order .now) (c .args .lines .now .number) (leftOf (c .args .lines .now)) (c .args .table .now) (c .loop-line .table) (c .loop-line .count) (l .number) (leftOf l) (i .0) (i .1) (i .2) (i .3) (i .4) (i .5) _ _ (c .in-Some .line) (c .in-Some .ensures tt .next) (eqb-true _ 0 (sym (c .if-is-empty .ensures tt)))
+    read-to-empty (c .args .order .now) (c .args .lines .now .number) (leftOf (c .args .lines .now)) (c .args .table .now) (c .loop-line .table) (c .loop-line .count) (l .number) (leftOf l) (i .0) (i .1) (i .2) (i .3) (i .4) (i .5) (i .7) _ _ (c .in-Some .line) (c .in-Some .ensures tt .next) (eqb-true _ 0 (sym (c .if-is-empty .ensures tt)))
 
 pub returns-in-Break-place : need.returns-in-Break-place
 returns-in-Break-place c =
@@ -65,10 +65,11 @@ loop-line-again c =
       past .1 ∙ i .4,
       omega (arith, read .few),
       length-set table count place ∙ i .6,
+      racked-more table count place room (i .7) (read .racked),
     )
 
 pub returns : need.returns
 returns c =
     let i = c .loop-line .inv in
     let l = c .loop-line .lines in
-    read-to-end (c .args .order .now) (c .args .lines .now .number) (leftOf (c .args .lines .now)) (c .args .table .now) (c .loop-line .table) (c .loop-line .count) (l .number) (leftOf l) (i .0) (i .1) (i .2) (i .3) (i .4) (i .5) _ _ (c .in-rest .ensures tt .next)
+    read-to-end (c .args .order .now) (c .args .lines .now .number) (leftOf (c .args .lines .now)) (c .args .table .now) (c .loop-line .table) (c .loop-line .count) (l .number) (leftOf l) (i .0) (i .1) (i .2) (i .3) (i .4) (i .5) (i .7) _ _ (c .in-rest .ensures tt .next)

@@ -1,8 +1,9 @@
 -- What is left has the listing's faults, and with its places those in the table are the listing's.
 use mathlib.Core.Path.{_≡_}
 use mathlib.Core.List.{List, _++_}
-use Prim.Native.Nat.{ℕ, _≤_}
+use Prim.Native.Nat.{ℕ, _≤_, _<_}
 use lib.ListN.{length, take, drop}
+use Rattle.std.specs.shelf.Lists.{All}
 use Rattle.site.specs.Site.{Place}
 use Rattle.text.specs.Rows.{leftOf}
 use Rattle.reader.specs.Listings.{NodesFault, NodesText, pastPart, pastNumber}
@@ -18,6 +19,7 @@ Inv-loop-line l =
     × (pastNumber (l .lines .number) (leftOf (l .lines)) ≡ pastNumber (l .entry .lines .number) (leftOf (l .entry .lines)))
     × (l .count ≤ 256)
     × (length (l .table) ≡ 256)
+    × All (λ p. p .0 .0 < 32) (take (l .count) (l .table))
 
 abbrev pub μ-loop-line : given.MeasureT-loop-line
 μ-loop-line l = length (leftOf (l .lines))
