@@ -28,7 +28,7 @@ fn act_of_byte(byte: u8) -> Option<Act>
 }
 
 /// The call whose letter the field is.
-pub fn act_of(field: &[u8]) -> Option<Act>
+pub(crate) fn act_of(field: &[u8]) -> Option<Act>
     ensures value { λ r. ⌜ r ≡ letter (now (field .entry)) ⌝ }
     ensures exact { λ r. ⌜ Lettered (now (field .entry)) r ⌝ }
 {

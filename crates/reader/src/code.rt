@@ -38,7 +38,7 @@ fn end_code(lines: &mut Lines) -> Result<(), Fault>
 }
 
 /// Reads the code part, and leaves the reader past the empty line that ends it.
-pub fn read_code(lines: &mut Lines) -> Result<CodeValues, Fault>
+pub(crate) fn read_code(lines: &mut Lines) -> Result<CodeValues, Fault>
     ensures { λ r. ⌜ Cases r (λ v. CodeRead (now (lines .entry) .number) (leftOf (now (lines .entry))) v (leftOf (now (lines .exit))) (now (lines .exit) .number)) (Least (CodeFault (now (lines .entry) .number) (leftOf (now (lines .entry))))) ⌝ }
 {
     let number = lines.number();

@@ -63,7 +63,7 @@ fn rest_of(act: Act) -> Want
 
 impl Form {
     /// What the field under a name has to be.
-    pub fn wants(self, name: usize) -> Want
+    pub(crate) fn wants(self, name: usize) -> Want
         ensures { λ r. ⌜ r ≡ wantOf self name ⌝ }
     {
         match self {
@@ -91,7 +91,7 @@ impl Form {
 }
 
 /// The keep mark that the field is.
-pub fn mark_of(field: &[u8]) -> Option<Mark>
+pub(crate) fn mark_of(field: &[u8]) -> Option<Mark>
     ensures { λ r. ⌜ Marked (now (field .entry)) r ⌝ }
 {
     if field.len() != 1 {
@@ -129,7 +129,7 @@ fn unless(fits: bool) -> Option<FaultKind>
 
 impl Want {
     /// What is wrong with a field, if anything is.
-    pub fn misfit(self, field: &[u8]) -> Option<FaultKind>
+    pub(crate) fn misfit(self, field: &[u8]) -> Option<FaultKind>
         ensures { λ r. ⌜ Judged self (now (field .entry)) r ⌝ }
     {
         match self {

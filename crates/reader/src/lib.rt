@@ -10,3 +10,6 @@ pub mod names;
 pub mod opening;
 pub mod row;
 pub mod sites;
+
+#[cfg(test)]
+mod tests;

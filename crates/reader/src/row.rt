@@ -20,7 +20,7 @@ use text::token::Lexer;
 use text::token::Token;
 
 /// Judges a line whose names stand in this order. A line that is too long for any sheet counts as far as one reaches.
-pub fn check_row(line: Line, form: Form, order: &[usize]) -> Result<(), Fault>
+pub(crate) fn check_row(line: Line, form: Form, order: &[usize]) -> Result<(), Fault>
     ensures { λ r. ⌜ Cases r (λ _. Clean (RowFault form (now (order .entry)) (line .entry .number) (take 65536 (now (line .entry .bytes))))) (Least (RowFault form (now (order .entry)) (line .entry .number) (take 65536 (now (line .entry .bytes))))) ⌝ }
 {
     let mut lexer = Lexer::new(line);
@@ -41,7 +41,7 @@ pub fn check_row(line: Line, form: Form, order: &[usize]) -> Result<(), Fault>
 }
 
 /// The field under a name, where the names stand in this order.
-pub fn field_named<'a>(line: Line<'a>, order: &[usize], name: usize) -> Option<&'a [u8]>
+pub(crate) fn field_named<'a>(line: Line<'a>, order: &[usize], name: usize) -> Option<&'a [u8]>
     ensures { λ r. ⌜ held r ≡ named (now (order .entry)) name (parted 44 (take 65536 (now (line .entry .bytes)))) ⌝ }
 {
     let mut lexer = Lexer::new(line);
@@ -59,7 +59,7 @@ pub fn field_named<'a>(line: Line<'a>, order: &[usize], name: usize) -> Option<&
 }
 
 /// The number under a name, or 0 where there is none.
-pub fn number_named(line: Line, order: &[usize], name: usize, limit: u32) -> u32
+pub(crate) fn number_named(line: Line, order: &[usize], name: usize, limit: u32) -> u32
     ensures text { λ r. ⌜ ((f : List ℕ) → named (now (order .entry)) name (parted 44 (take 65536 (now (line .entry .bytes)))) ≡ Some f → Fit (Want.Number limit) f → f ≡ decimal r) ⌝ }
     ensures within { λ r. ⌜ r ≤ limit ⌝ }
 {
