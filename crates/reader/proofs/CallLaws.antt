@@ -25,7 +25,8 @@ use Rattle.reader.specs.Names.{callNames, InOrder}
 use Rattle.reader.specs.Calls.{callOf, formOf, callForm, CallFault, actOf, RestText, callText, CallText, CallOrder, CallRead}
 use Rattle.reader.proofs.WantLaws.{fit-letter}
 use Rattle.reader.proofs.FieldLaws.{FitsRow, row-fits, row-text, named-fits}
-use Rattle.reader.proofs.NameLaws.{order-names, has-all}
+use Rattle.reader.proofs.NameLaws.{order-names}
+use Rattle.reader.proofs.PickLaws.{picks-all}
 use Rattle.reader.proofs.CodeLaws.{ReadAs}
 
 -- what is asked is read from the field under `rest`
@@ -41,7 +42,7 @@ same-some x y e = cc
 
 module _ (is : List ℕ) (n : ℕ) (line : List ℕ) (names : List ℕ) (o : InOrder callNames names is) where
   has : (j : ℕ) → j < 3 → elem j is ≡ true
-  has = has-all is (o .all) (o .once) (o .names)
+  has = picks-all 3 is (o .all) (o .once) (o .names)
 
   -- the letter of a line without fault is known
   known : (p : Option Act) → p ≡ callOf (named is 0 (parted 44 line)) → Clean (RowFault (formOf p) is n line) → (a : Act) × (p ≡ Some a) × ((g : List ℕ) → named is 0 (parted 44 line) ≡ Some g → g ≡ letterOf a)

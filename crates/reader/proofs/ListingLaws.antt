@@ -39,7 +39,8 @@ use Rattle.reader.specs.Listings.{NodeOrder, NodesFault, NodeText, nodeText, N
 use Rattle.reader.proofs.LineLaws.{line-is, line-none, no-bytes}
 use Rattle.reader.proofs.RowLaws.{Same, row-line, clean-same}
 use Rattle.reader.proofs.FieldLaws.{FitsRow, row-fits, row-text}
-use Rattle.reader.proofs.NameLaws.{order-names, has-all}
+use Rattle.reader.proofs.NameLaws.{order-names}
+use Rattle.reader.proofs.PickLaws.{picks-all}
 use Rattle.reader.proofs.CodeLaws.{ReadAs}
 
 -- a field that fits is the text of the mark that is read from it
@@ -78,7 +79,7 @@ node-read is n count line p (names, o) clean rack low mark = record {
   fits : FitsRow (Node count) is (parted 44 line)
   fits = row-fits (Node count) is n line clean
   few : count ≤ 255
-  few = row-few count is (parted 44 line) (has-all is (o .all) (o .once) (o .names) 0 (omega arith)) fits
+  few = row-few count is (parted 44 line) (picks-all 3 is (o .all) (o .once) (o .names) 0 (omega arith)) fits
   said : (j : ℕ) (g : List ℕ) → j < 3 → named is j (parted 44 line) ≡ Some g → Fit (wantOf (Node count) j) g → g ≡ nodeText count p j
   said zero g h e fit = own g (cases-bool (isNumber 4294967295 g)) fit where
     own : (g : List ℕ) → (isNumber 4294967295 g ≡ true) ⊎ (isNumber 4294967295 g ≡ false) → Fit (Next count) g → g ≡ decimal count

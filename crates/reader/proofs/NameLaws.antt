@@ -11,7 +11,6 @@ use Rattle.std.specs.shelf.Lists.{All}
 use Rattle.std.specs.declared.option.Option.{Option}
 use Rattle.std.specs.declared.option.Option.the-variants.{Some, None}
 use Rattle.std.proofs.shelf.Tests.{and-parts, eqb-true, eq-eqb, or-right, or-left, not-true, both-ways, or-cases}
-use Rattle.std.proofs.shelf.Ways.{tells}
 use Rattle.text.specs.Orders.{elem, distinct, Order, Apart, Ordered, orderOf}
 use Rattle.text.specs.Pieces.{parted}
 use Rattle.text.proofs.OrderExact.{order-found}
@@ -75,15 +74,3 @@ order-names names line is o j e = within is (o .names) e where
   within : (js : List ℕ) → All (λ i. i < length names) js → elem j js ≡ true → j < length names
   within [] a e = absurd (both-ways false refl e)
   within (i ∷ js) a e = ⊎-elim (λ p. omega (arith, a .0, eqb-true i j p)) (within js (a .1)) (or-cases (eqb i j) (elem j js) e)
-
--- three names, each once, are all three
-pub has-all : (is : List ℕ) → length is ≡ 3 → distinct is ≡ true → All (λ i. i < 3) is → (j : ℕ) → j < 3 → elem j is ≡ true
-has-all [] l d a j h = absurd (omega arith)
-has-all (x ∷ []) l d a j h = absurd (omega arith)
-has-all (x ∷ y ∷ []) l d a j h = absurd (omega arith)
-has-all (x ∷ y ∷ z ∷ []) l d a j h =
-    let p = a .0 in
-    let q = a .1 .0 in
-    let r = a .1 .1 .0 in
-    grind (arith, tells, p, q, r, d)
-has-all (x ∷ y ∷ z ∷ w ∷ is) l d a j h = absurd (omega arith)

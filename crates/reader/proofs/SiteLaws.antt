@@ -91,7 +91,7 @@ module _ (n : ℕ) (ls : List (List ℕ)) (names is : List ℕ) (o : InOrder reg
       }
 
 -- the two kinds of names lines differ
-two-or-three : (l is js : List ℕ) → InOrder regularNames l is → InOrder nodeNames l js → ⊥
+pub two-or-three : (l is js : List ℕ) → InOrder regularNames l is → InOrder nodeNames l js → ⊥
 two-or-three l is js o p = omega (arith, order-fields regularNames l is o, order-fields nodeNames l js p)
 
 module _ (n : ℕ) (l : List ℕ) (ls : List (List ℕ)) where

@@ -59,7 +59,7 @@ nothing-judged (x ∷ bs) b o e f = subst (Judged Nothing (x ∷ bs)) (sym (f �
   more = grind (arith, tells)
 
 -- the number of a node line
-no-such : (bs : List ℕ) (v : ℕ) → bs ≡ decimal v → v ≤ 4294967295 → (u : ℕ) → bs ≡ decimal u → u ≤ 4294967295 → u ≡ v
+pub no-such : (bs : List ℕ) (v : ℕ) → bs ≡ decimal v → v ≤ 4294967295 → (u : ℕ) → bs ≡ decimal u → u ≤ 4294967295 → u ≡ v
 no-such bs v e h u f k =
     let p = exact-is 4294967295 bs (Some v) (omega arith) (h, e) in
     let q = exact-is 4294967295 bs (Some u) (omega arith) (k, f) in
@@ -88,7 +88,7 @@ letter-long [] h = refl
 letter-long (b ∷ []) h = absurd (h refl)
 letter-long (b ∷ c ∷ bs) h = refl
 
-letter-back : (a : Act) → letter (letterOf a) ≡ Some a
+pub letter-back : (a : Act) → letter (letterOf a) ≡ Some a
 letter-back Offer = refl
 letter-back Seal = refl
 letter-back Plan = refl

@@ -9,3 +9,4 @@ pub mod Heads
 pub mod Calls
 pub mod SiteMaps
 pub mod Openings
+pub mod Backs
