@@ -71,11 +71,11 @@ number-fits limit v h k m = m .1 v h refl
 next-fits : (count : ℕ) → count ≤ 255 → Fit (Next count) (decimal count)
 next-fits count h k m =
     ⊎-elim (λ p. p .1 count (omega arith) refl) (λ p.
-        let same = no-such (decimal count) count refl (omega arith) (p .1 .0) (p .1 .2) (p .1 .1) in
-        ⊎-elim (λ q. q same) (λ q. omega (arith, q, same)) (p .1 .3)) m
+    let same = no-such (decimal count) count refl (omega arith) (p .1 .0) (p .1 .2) (p .1 .1) in
+    ⊎-elim (λ q. q same) (λ q. omega (arith, q, same)) (p .1 .3)) m
 
 -- the code
-same-map : (t u : ℕ → List ℕ) (is : List ℕ) → map t is ≡ map u is → (j : ℕ) → elem j is ≡ true → t j ≡ u j
+pub same-map : (t u : ℕ → List ℕ) (is : List ℕ) → map t is ≡ map u is → (j : ℕ) → elem j is ≡ true → t j ≡ u j
 same-map t u [] e j m = absurd (both-ways false refl m)
 same-map t u (i ∷ is) e j m =
     let here : t i ≡ u i = cc in
@@ -95,10 +95,10 @@ code-back n ls v words long end (is, o, text) f =
     (⊎-elim (λ p. p .1 is o)
     (⊎-elim (λ p. row (subst (λ js. RowFault Numbers js (n + 1) (getD ls 1 []) f) (one-order codeNames (getD ls 0 []) (p .0) is code-apart (p .1) o) (p .2)))
     (λ p. omega (arith, p .0, ap length end)))) where
-  row : RowFault Numbers is (n + 1) (getD ls 1 []) f → ⊥
-  row = text-clean Numbers (codeText v) is (n + 1) (getD ls 1 []) text (λ j m. code-fits v words j (order-names codeNames (getD ls 0 []) is o j m)) f
+      row : RowFault Numbers is (n + 1) (getD ls 1 []) f → ⊥
+      row = text-clean Numbers (codeText v) is (n + 1) (getD ls 1 []) text (λ j m. code-fits v words j (order-names codeNames (getD ls 0 []) is o j m)) f
 
-same-word : (a b : ℕ) → Word a → Word b → decimal a ≡ decimal b → a ≡ b
+pub same-word : (a b : ℕ) → Word a → Word b → decimal a ≡ decimal b → a ≡ b
 same-word a b p q e = no-such (decimal b) b refl q a (sym e) p
 
 -- two texts of one line, by their names
@@ -126,12 +126,13 @@ regular-back n [] racks each table a b end (is, o, text) = absurd (none (o .all)
     length-of (j ∷ js) = ap suc (length-of js)
 regular-back n (l ∷ ls) racks each table a b end (is, o, text) =
     clean-same (RegularFault is (n + 1) ls) (SiteFault n (l ∷ ls)) (regular-same n l ls is o) (λ f. ⊎-elim (row f) (λ p. omega (arith, p .0, ap length end))) where
-  fits : (j : ℕ) → j < 2 → Fit (Number 4294967295) (regularText racks each j)
-  fits zero h = number-fits 4294967295 racks a
-  fits (suc zero) h = number-fits 4294967295 each b
-  fits (suc (suc j)) h = absurd (omega arith)
-  row : Clean (RowFault Numbers is (n + 1) (getD ls 0 []))
-  row = text-clean Numbers (regularText racks each) is (n + 1) (getD ls 0 []) text (λ j m. fits j (order-names regularNames l is o j m))
+      fits : (j : ℕ) → j < 2 → Fit (Number 4294967295) (regularText racks each j)
+      fits zero h = number-fits 4294967295 racks a
+      fits (suc zero) h = number-fits 4294967295 each b
+      fits (suc (suc j)) h = absurd (omega arith)
+
+      row : Clean (RowFault Numbers is (n + 1) (getD ls 0 []))
+      row = text-clean Numbers (regularText racks each) is (n + 1) (getD ls 0 []) text (λ j m. fits j (order-names regularNames l is o j m))
 
 node-fits : (count : ℕ) (p : Place) → count ≤ 255 → p .0 .0 < 32 → (j : ℕ) → j < 3 → Fit (wantOf (Node count) j) (nodeText count p j)
 node-fits count p h r zero l = next-fits count h
@@ -218,8 +219,8 @@ named-text : (t : ℕ → List ℕ) (is : List ℕ) (j : ℕ) → elem j is ≡ 
 named-text t [] j m = absurd (both-ways false refl m)
 named-text t (i ∷ is) j m =
     elim (eqb i j) as (λ b. eqb i j ≡ b → cond b (Some (t i)) (named is j (map t is)) ≡ Some (t j)) [
-      true ↦ λ e. ap (λ k. Some (t k)) (eqb-true i j e)
-    | false ↦ λ e. named-text t is j (⊎-elim (λ p. absurd (both-ways (eqb i j) e p)) (λ p. p) (or-cases (eqb i j) (elem j is) m))
+      | true ↦ λ e. ap (λ k. Some (t k)) (eqb-true i j e)
+      | false ↦ λ e. named-text t is j (⊎-elim (λ p. absurd (both-ways (eqb i j) e p)) (λ p. p) (or-cases (eqb i j) (elem j is) m))
     ] refl
 
 pub call-back : Call-reads-back

@@ -56,11 +56,11 @@ module _ (is : List ℕ) (n : ℕ) (line : List ℕ) (names : List ℕ) (o : InO
       let fits = row-fits (Call a) is n line clean in
       let at = named-fits (Call a) 2 is (parted 44 line) (has 2 (omega arith)) fits in
       (at .0, rest (at .0) (at .1) (at .2), row-text (Call a) (callText call (at .0)) is (parted 44 line) (o .once) fits (λ j g e. said (at .0) (at .1) j g (order-names callNames names is o j e))) where
-    said : (r : List ℕ) → named is 2 (parted 44 line) ≡ Some r → (j : ℕ) (g : List ℕ) → j < 3 → named is j (parted 44 line) ≡ Some g → Fit (wantOf (Call a) j) g → g ≡ callText call r j
-    said r at zero g h e fit = lettered g e ∙ ap letterOf (sym acts)
-    said r at (suc zero) g h e fit = first g e fit
-    said r at (suc (suc zero)) g h e fit = same-some g r (sym e ∙ at)
-    said r at (suc (suc (suc j))) g h e fit = absurd (omega arith)
+        said : (r : List ℕ) → named is 2 (parted 44 line) ≡ Some r → (j : ℕ) (g : List ℕ) → j < 3 → named is j (parted 44 line) ≡ Some g → Fit (wantOf (Call a) j) g → g ≡ callText call r j
+        said r at zero g h e fit = lettered g e ∙ ap letterOf (sym acts)
+        said r at (suc zero) g h e fit = first g e fit
+        said r at (suc (suc zero)) g h e fit = same-some g r (sym e ∙ at)
+        said r at (suc (suc (suc j))) g h e fit = absurd (omega arith)
 
 pub call-read : (is : List ℕ) (n : ℕ) (line : List ℕ) (p : Option Act) (form : Form) (a : Act) (call : CallLine) → p ≡ callOf (named is 0 (parted 44 line)) → form ≡ formOf p → Clean (RowFault form is n line) → a ≡ valueOr p act.Plan → actOf (call .asked) ≡ a → Said is (parted 44 line) a (call .asked) → ReadAs is (parted 44 line) 1 4294967295 (call .first) → CallRead is n line call
 call-read is n line p form a call e f clean v acts rest first = record {

@@ -100,13 +100,12 @@ module _ (n : ℕ) (l is : List ℕ) (o : InOrder codeNames l is) where
   code-ended [] clean k at-k r after m t = absurd (clean (at Count (n + 1) 1) (row-empty Numbers is (n + 1) filled _ .1 refl))
   code-ended (x ∷ []) clean k at-k (Ok u) after m t = absurd t
   code-ended (x ∷ []) clean k at-k (Err f) after m t = subst (Least (CodeFault n (l ∷ x ∷ []))) (sym (t ∙ ap (λ j. at Sheet j 1) (at-k (omega arith)))) (lone x clean)
-  code-ended (x ∷ y ∷ zs) clean k at-k (Ok u) after m t =
-      (
-        subst (λ y. Clean (CodeFault n (l ∷ x ∷ y ∷ zs))) (sym (t .0)) (whole x zs clean),
-        omega arith,
-        t .1,
-        omega (arith, t .2, at-k (omega arith)),
-      )
+  code-ended (x ∷ y ∷ zs) clean k at-k (Ok u) after m t = (
+    subst (λ y. Clean (CodeFault n (l ∷ x ∷ y ∷ zs))) (sym (t .0)) (whole x zs clean),
+    omega arith,
+    t .1,
+    omega (arith, t .2, at-k (omega arith)),
+  )
   code-ended (x ∷ y ∷ zs) clean k at-k (Err f) after m t = subst (Least (CodeFault n (l ∷ x ∷ y ∷ zs))) (sym (t .1 ∙ ap (λ j. at Count j 1) (at-k (omega arith)))) (more x y zs clean (t .0))
 
 -- a value is read under its name
@@ -116,12 +115,12 @@ ReadAs is fs name limit v = (f : List ℕ) → named is name fs ≡ Some f → F
 pub code-text : (n : ℕ) (l x is : List ℕ) (v : CodeValues) → InOrder codeNames l is → Clean (RowFault Numbers is n x) → ReadAs is (parted 44 x) 0 4294967295 (v .n) → ReadAs is (parted 44 x) 1 4294967295 (v .k) → ReadAs is (parted 44 x) 2 4294967295 (v .c) → ReadAs is (parted 44 x) 3 4294967295 (v .targets) → parted 44 x ≡ map (codeText v) is
 code-text n l x is v o clean a b c d =
     row-text Numbers (codeText v) is (parted 44 x) (o .once) (row-fits Numbers is n x clean) (λ j g e. said j g (order-names codeNames l is o j e)) where
-  said : (j : ℕ) (g : List ℕ) → j < 4 → named is j (parted 44 x) ≡ Some g → Fit (Number 4294967295) g → g ≡ codeText v j
-  said zero g h e fit = a g e fit
-  said (suc zero) g h e fit = b g e fit
-  said (suc (suc zero)) g h e fit = c g e fit
-  said (suc (suc (suc zero))) g h e fit = d g e fit
-  said (suc (suc (suc (suc j)))) g h e fit = absurd (omega arith)
+      said : (j : ℕ) (g : List ℕ) → j < 4 → named is j (parted 44 x) ≡ Some g → Fit (Number 4294967295) g → g ≡ codeText v j
+      said zero g h e fit = a g e fit
+      said (suc zero) g h e fit = b g e fit
+      said (suc (suc zero)) g h e fit = c g e fit
+      said (suc (suc (suc zero))) g h e fit = d g e fit
+      said (suc (suc (suc (suc j)))) g h e fit = absurd (omega arith)
 
 -- the lines as they are read, one after the other
 module _ (n : ℕ) (ls : List (List ℕ)) (names : Line) (mid : List (List ℕ)) (m₁ : ℕ) (is : List ℕ) (line : Line) (after : List (List ℕ)) (m₂ : ℕ) (head : NextLine ls n (Some names) mid m₁) (o : InOrder codeNames (names .bytes .now) is) (values : OrEmpty mid m₁ line after m₂) where

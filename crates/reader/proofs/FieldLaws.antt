@@ -69,9 +69,9 @@ row-text form t (i ∷ is) (f ∷ fs) d fits said =
     let new = not-true (elem i is) (and-parts _ _ d .0) in
     let here : f ≡ t i = said i f (or-left (eqb i i) (elem i is) (eq-eqb i i refl)) (ap (λ b. cond b (Some f) (named is i fs)) (eq-eqb i i refl)) (fits .0) in
     let more : fs ≡ map t is =
-      row-text form t is fs (and-parts _ _ d .1) (fits .1) (λ j g e n fit.
-          let other : i ≡ j → ⊥ = λ s. both-ways (elem i is) new (ap (λ k. elem k is) s ∙ e) in
-          said j g (or-right (eqb i j) (elem j is) e) (ap (λ b. cond b (Some f) (named is j fs)) (ne-eqb i j other) ∙ n) fit) in
+    row-text form t is fs (and-parts _ _ d .1) (fits .1) (λ j g e n fit.
+    let other : i ≡ j → ⊥ = λ s. both-ways (elem i is) new (ap (λ k. elem k is) s ∙ e) in
+    said j g (or-right (eqb i j) (elem j is) e) (ap (λ b. cond b (Some f) (named is j fs)) (ne-eqb i j other) ∙ n) fit) in
     (λ x. here x ∷ more x)
 
 -- the field under a name that is there
@@ -82,7 +82,7 @@ named-fits form j (i ∷ is) (f ∷ fs) e fits =
     ⊎-elim
     (λ p. (f, ap (λ b. cond b (Some f) (named is j fs)) (eq-eqb i j p), subst (λ k. Fit (wantOf form k) f) p (fits .0)))
     (λ p.
-        let other : eqb i j ≡ false = ne-eqb i j p in
-        let more = named-fits form j is fs (⊎-elim (λ q. absurd (both-ways (eqb i j) other q)) (λ q. q) (or-cases (eqb i j) (elem j is) e)) (fits .1) in
-        (more .0, ap (λ b. cond b (Some f) (named is j fs)) other ∙ more .1, more .2))
+    let other : eqb i j ≡ false = ne-eqb i j p in
+    let more = named-fits form j is fs (⊎-elim (λ q. absurd (both-ways (eqb i j) other q)) (λ q. q) (or-cases (eqb i j) (elem j is) e)) (fits .1) in
+    (more .0, ap (λ b. cond b (Some f) (named is j fs)) other ∙ more .1, more .2))
     (cases-eq i j)

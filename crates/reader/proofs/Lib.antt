@@ -10,3 +10,4 @@ pub mod SiteLaws
 pub mod HeadLaws
 pub mod CallLaws
 pub mod BackLaws
+pub mod OneCallLaws

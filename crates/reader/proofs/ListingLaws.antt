@@ -55,11 +55,12 @@ fit-few : (count : ℕ) (bs : List ℕ) → Fit (Next count) bs → count ≤ 25
 fit-few count bs fit = ⊎-elim (λ h. h) (λ h. absurd (by (cases-bool (isNumber 4294967295 bs)) h)) (order (cases-lt 255 count)) where
   order : (255 < count) ⊎ (count ≤ 255) → (count ≤ 255) ⊎ (255 < count)
   order h = ⊎-elim inr inl h
+
   by : (isNumber 4294967295 bs ≡ true) ⊎ (isNumber 4294967295 bs ≡ false) → 255 < count → ⊥
   by t h =
       ⊎-elim
       (λ t. let p = number-is 4294967295 bs (omega arith) t in
-          fit kind.Node (inr (refl, (value 10 bs, p .0, p .1, ⊎-elim (λ e. inr (omega (arith, e, h))) inl (cases-eq (value 10 bs) count)))))
+      fit kind.Node (inr (refl, (value 10 bs, p .0, p .1, ⊎-elim (λ e. inr (omega (arith, e, h))) inl (cases-eq (value 10 bs) count)))))
       (λ t. fit kind.Field (inl (refl, λ v l e. both-ways _ t (number-taken 4294967295 bs v (omega arith) l e))))
       t
 
@@ -78,15 +79,17 @@ node-read is n count line p (names, o) clean rack low mark = record {
 } where
   fits : FitsRow (Node count) is (parted 44 line)
   fits = row-fits (Node count) is n line clean
+
   few : count ≤ 255
   few = row-few count is (parted 44 line) (picks-all 3 is (o .all) (o .once) (o .names) 0 (omega arith)) fits
+
   said : (j : ℕ) (g : List ℕ) → j < 3 → named is j (parted 44 line) ≡ Some g → Fit (wantOf (Node count) j) g → g ≡ nodeText count p j
   said zero g h e fit = own g (cases-bool (isNumber 4294967295 g)) fit where
     own : (g : List ℕ) → (isNumber 4294967295 g ≡ true) ⊎ (isNumber 4294967295 g ≡ false) → Fit (Next count) g → g ≡ decimal count
     own g t fit =
         ⊎-elim
         (λ t. let p = number-is 4294967295 g (omega arith) t in
-            ⊎-elim (λ e. p .1 ∙ ap decimal e) (λ ne. absurd (fit kind.Node (inr (refl, (value 10 g, p .0, p .1, inl ne))))) (cases-eq (value 10 g) count))
+        ⊎-elim (λ e. p .1 ∙ ap decimal e) (λ ne. absurd (fit kind.Node (inr (refl, (value 10 g, p .0, p .1, inl ne))))) (cases-eq (value 10 g) count))
         (λ t. absurd (fit kind.Field (inl (refl, λ v l e. both-ways _ t (number-taken 4294967295 g v (omega arith) l e)))))
         t
   said (suc zero) g h e fit = rack g e fit

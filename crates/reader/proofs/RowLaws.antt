@@ -136,14 +136,13 @@ module _ (form : Form) (line end : ℕ) where
       let here : Misfit (wantOf form i) (c .bytes) k = subst (λ b. Misfit (wantOf form i) b k) (t .0) m in
       subst (λ p. Least (FaultAt form line end (i ∷ is) (c ∷ cs)) (record { kind = k; place = p })) (sym (t .1))
       (least-here _ form line end is c cs lo k r (misfit-kind (wantOf form i) (c .bytes) k here) (inl (k, here, refl))
-        (λ g p. ⊎-elim (λ q. inl (q .2 ∙ ap (λ j. at j line (c .column)) (only (q .0) (subst (λ b. Misfit (wantOf form i) b (q .0)) (sym (t .0)) (q .1))))) inr p))
+      (λ g p. ⊎-elim (λ q. inl (q .2 ∙ ap (λ j. at j line (c .column)) (only (q .0) (subst (λ b. Misfit (wantOf form i) b (q .0)) (sym (t .0)) (q .1))))) inr p))
 
   -- it is, and what is left has the faults
   pub right-field : (i : ℕ) (is : List ℕ) (cs after : List Cell) (line′ end′ : ℕ) (bytes : RefT (List ℕ)) (place : Place) → NextToken cs line end (token.Field bytes place) after line′ end′ → Fit (wantOf form i) (bytes .now) → Same (FaultAt form line′ end′ is after) (FaultAt form line end (i ∷ is) cs)
   right-field i is [] after line′ end′ bytes place t fits f = absurd t
   right-field i is (c ∷ cs) after line′ end′ bytes place t fits f =
-      let go : FaultAt form line′ end′ is after ≡ FaultAt form line end is cs = (λ x. FaultAt form (t .3 x) (t .4 x) is (t .2 x)) in
-      (
+      let go : FaultAt form line′ end′ is after ≡ FaultAt form line end is cs = (λ x. FaultAt form (t .3 x) (t .4 x) is (t .2 x)) in (
         (λ h. inr (subst (λ P. P f) go h)),
         λ h. ⊎-elim (λ p. absurd (fits (p .0) (subst (λ b. Misfit (wantOf form i) b (p .0)) (sym (t .0)) (p .1)))) (λ p. subst (λ P. P f) (sym go) p) h,
       )

@@ -60,10 +60,10 @@ module _ (n : ℕ) (is : List ℕ) (some : 0 < length is) where
 regular-text : (n : ℕ) (l x is : List ℕ) (racks each : ℕ) → InOrder regularNames l is → Clean (RowFault Numbers is n x) → ReadAs is (parted 44 x) 0 4294967295 racks → ReadAs is (parted 44 x) 1 4294967295 each → RegularText is x racks each
 regular-text n l x is racks each o clean a b =
     row-text Numbers (regularText racks each) is (parted 44 x) (o .once) (row-fits Numbers is n x clean) (λ j g e. said j g (order-names regularNames l is o j e)) where
-  said : (j : ℕ) (g : List ℕ) → j < 2 → named is j (parted 44 x) ≡ Some g → Fit (Number 4294967295) g → g ≡ regularText racks each j
-  said zero g h e fit = a g e fit
-  said (suc zero) g h e fit = b g e fit
-  said (suc (suc j)) g h e fit = absurd (omega arith)
+      said : (j : ℕ) (g : List ℕ) → j < 2 → named is j (parted 44 x) ≡ Some g → Fit (Number 4294967295) g → g ≡ regularText racks each j
+      said zero g h e fit = a g e fit
+      said (suc zero) g h e fit = b g e fit
+      said (suc (suc j)) g h e fit = absurd (omega arith)
 
 -- a regular site's lines as they are read
 module _ (n : ℕ) (ls : List (List ℕ)) (names is : List ℕ) (o : InOrder regularNames names is) (line : Line) (after : List (List ℕ)) (m : ℕ) (values : OrEmpty ls n line after m) where

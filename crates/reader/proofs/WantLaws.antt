@@ -74,8 +74,8 @@ next-wrong count bs v h e n = (inr (refl, (v, h, e, n)), λ j m. ⊎-elim (λ p.
 pub next-right : (count : ℕ) (bs : List ℕ) (v : ℕ) → v ≤ 4294967295 → bs ≡ decimal v → v ≡ count → v ≤ 255 → Judged (Next count) bs None
 next-right count bs v h e is le =
     λ k m. ⊎-elim (λ p. p .1 v h e) (λ p.
-        let same = no-such bs v e h (p .1 .0) (p .1 .2) (p .1 .1) in
-        ⊎-elim (λ q. q (same ∙ is)) (λ q. omega (arith, q, same, le)) (p .1 .3)) m
+    let same = no-such bs v e h (p .1 .0) (p .1 .2) (p .1 .1) in
+    ⊎-elim (λ q. q (same ∙ is)) (λ q. omega (arith, q, same, le)) (p .1 .3)) m
 
 -- one byte is a letter where it is that of a call
 pub one-byte : (bs : List ℕ) → length bs ≡ 1 → bs ≡ getD bs 0 0 ∷ []

@@ -66,3 +66,8 @@ AskedWords Abandon = Unit {0}
 abbrev pub Call-reads-back : Type 0
 Call-reads-back =
     (is : List ℕ) (n : ℕ) (line : List ℕ) (call : CallLine) → CallOrder is → Word (call .first) → AskedWords (call .asked) → CallText is line call → Clean (CallFault is n line)
+
+-- and a line says one call only
+abbrev pub One-call : Type 0
+One-call =
+    (is line : List ℕ) (a b : CallLine) → CallOrder is → Word (a .first) → Word (b .first) → AskedWords (a .asked) → AskedWords (b .asked) → CallText is line a → CallText is line b → a ≡ b

@@ -86,7 +86,10 @@ fn form_of(act: Option<Act>) -> Form
 fn nodes_named(line: Line, order: &[usize]) -> NodeList
     ensures { λ r. ⌜ ((f : List ℕ) → named (now (order .entry)) 2 (parted 44 (take 65536 (now (line .entry .bytes)))) ≡ Some f → Fit (sayOf Act.Offer) f → RestText (Asked.Offer r) f) ⌝ }
 {
-    let none = NodeList { nodes: [0; KEPT], len: 0 };
+    let none = NodeList {
+        nodes: [0; KEPT],
+        len: 0,
+    };
     let Some(field) = field_named(line, order, 2) else {
         return none;
     };
@@ -117,5 +120,8 @@ pub fn read_call(order: &[usize; 3], line: Line) -> Result<CallLine, Fault>
     check_row(line, form_of(act), order)?;
     let first = number_named(line, order, 1, u32::MAX);
     let act = act.unwrap_or(Act::Plan);
-    Ok(CallLine { asked: read_asked(line, order, act), first })
+    Ok(CallLine {
+        asked: read_asked(line, order, act),
+        first,
+    })
 }

@@ -72,19 +72,31 @@ impl Form {
                 if name == 0 {
                     return Want::Next(count);
                 }
-                if name == 1 { Want::Number(LAST_RACK) } else { Want::Keep }
+                if name == 1 {
+                    Want::Number(LAST_RACK)
+                } else {
+                    Want::Keep
+                }
             }
             Form::Call(act) => {
                 if name == 0 {
                     return Want::Letter;
                 }
-                if name == 1 { Want::Number(u32::MAX) } else { rest_of(act) }
+                if name == 1 {
+                    Want::Number(u32::MAX)
+                } else {
+                    rest_of(act)
+                }
             }
             Form::Unknown => {
                 if name == 0 {
                     return Want::Letter;
                 }
-                if name == 1 { Want::Number(u32::MAX) } else { Want::Anything }
+                if name == 1 {
+                    Want::Number(u32::MAX)
+                } else {
+                    Want::Anything
+                }
             }
         }
     }

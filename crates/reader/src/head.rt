@@ -24,7 +24,11 @@ pub struct Head {
 }
 
 /// Reads the code and the site of a sheet, a listing's places into the table. The reader is then at the calls part.
-pub fn read_head<'a>(sheet: &'a [u8], lines: &mut Lines<'a>, table: &mut [(Rack, Mark); TABLE]) -> Result<Head, Fault>
+pub fn read_head<'a>(
+    sheet: &'a [u8],
+    lines: &mut Lines<'a>,
+    table: &mut [(Rack, Mark); TABLE],
+) -> Result<Head, Fault>
     ensures { λ r. ⌜ Cases r (λ h. HeadRead (now (sheet .entry)) h (now (table .entry)) (now (table .exit)) (now (lines .exit))) (Least (HeadFault (now (sheet .entry)))) ⌝ }
 {
     if sheet.len() > MOST {

@@ -11,6 +11,5 @@ pub mod names;
 pub mod opening;
 pub mod row;
 pub mod sites;
-
 #[cfg(test)]
 mod tests;

@@ -53,7 +53,11 @@ fn read_node(line: Line, order: &[usize], count: u32) -> Result<(Rack, Mark), Fa
 
 /// Reads the node lines into the table, and tells how many there are. The reader is left past the empty line that ends
 /// them.
-pub(crate) fn read_nodes(lines: &mut Lines, order: &[usize], table: &mut [(Rack, Mark); TABLE]) -> Result<u16, Fault>
+pub(crate) fn read_nodes(
+    lines: &mut Lines,
+    order: &[usize],
+    table: &mut [(Rack, Mark); TABLE],
+) -> Result<u16, Fault>
     requires { ⌜ NodeOrder (now order) ⌝ }
     ensures { λ r. ⌜ Cases r (λ count. NodesRead (now (order .entry)) (now (lines .entry) .number) (leftOf (now (lines .entry))) count (now (table .entry)) (now (table .exit)) (leftOf (now (lines .exit))) (now (lines .exit) .number)) (Least (NodesFault (now (order .entry)) (now (lines .entry) .number) 0 (leftOf (now (lines .entry))))) ⌝ }
 {

@@ -45,7 +45,10 @@ impl<'a> SheetMap<'a> {
     pub fn new(kind: SiteKind, places: &'a [(Rack, Mark)]) -> SheetMap<'a>
         ensures { λ r. ⌜ mapMeaning r ≡ kindMeaning kind (listed (now (places .entry))) ⌝ }
     {
-        SheetMap { kind, table: ListedMap::new(places) }
+        SheetMap {
+            kind,
+            table: ListedMap::new(places),
+        }
     }
 }
 

@@ -42,7 +42,10 @@ pub(crate) fn call_order(line: &[u8]) -> Option<[usize; 3]>
 pub(crate) fn line_fault(kind: FaultKind, line: u32) -> Fault
     ensures { λ r. ⌜ r ≡ at kind line 1 ⌝ }
 {
-    Fault { kind, place: Place { line, column: 1 } }
+    Fault {
+        kind,
+        place: Place { line, column: 1 },
+    }
 }
 
 /// The next line, or an empty one in its place where there is none.

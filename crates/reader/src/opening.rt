@@ -40,7 +40,11 @@ pub struct Opening {
 
 /// Reads the code and the site of a sheet, a listing's places into the table, and makes a regular site's map. The reader is
 /// then at the calls part.
-pub fn open_sheet<'a>(sheet: &'a [u8], lines: &mut Lines<'a>, table: &mut [(Rack, Mark); TABLE]) -> Result<Opening, SiteFault>
+pub fn open_sheet<'a>(
+    sheet: &'a [u8],
+    lines: &mut Lines<'a>,
+    table: &mut [(Rack, Mark); TABLE],
+) -> Result<Opening, SiteFault>
     ensures { λ r. ⌜ Opened (now (sheet .entry)) (now (table .entry)) (now (table .exit)) (now (lines .exit)) r ⌝ }
 {
     let head = read_head(sheet, lines, table)?;

@@ -31,11 +31,17 @@ pub(crate) fn check_row(line: Line, form: Form, order: &[usize]) -> Result<(), F
                     return Err(Fault { kind, place });
                 }
             }
-            Token::End { place } => return Err(Fault { kind: FaultKind::Count, place }),
+            Token::End { place } => return Err(Fault {
+                kind: FaultKind::Count,
+                place,
+            }),
         }
     }
     match lexer.next_token() {
-        Token::Field { bytes: _, place } => Err(Fault { kind: FaultKind::Count, place }),
+        Token::Field { bytes: _, place } => Err(Fault {
+            kind: FaultKind::Count,
+            place,
+        }),
         Token::End { place: _ } => Ok(()),
     }
 }

@@ -57,7 +57,10 @@ fn read_regular(lines: &mut Lines, order: &[usize]) -> Result<(u32, u32), Fault>
 }
 
 /// Reads the site part, a listing's places into the table, and leaves the reader past the empty line that ends it.
-pub(crate) fn read_site(lines: &mut Lines, table: &mut [(Rack, Mark); TABLE]) -> Result<SiteValues, Fault>
+pub(crate) fn read_site(
+    lines: &mut Lines,
+    table: &mut [(Rack, Mark); TABLE],
+) -> Result<SiteValues, Fault>
     ensures { λ r. ⌜ Cases r (λ v. SiteRead (now (lines .entry) .number) (leftOf (now (lines .entry))) v (now (table .entry)) (now (table .exit)) (leftOf (now (lines .exit))) (now (lines .exit) .number)) (Least (SiteFault (now (lines .entry) .number) (leftOf (now (lines .entry))))) ⌝ }
 {
     let number = lines.number();

@@ -29,18 +29,36 @@ fn faults_of_the_code() -> Result<(), Fail> {
     check_eq(told(b"n,k,c,targets\n4,3,1\n"), Some((12, 2, 6))).note("a value is missing")?;
     check_eq(told(b"n,k,c,targets\n4,3,1,15,7\n"), Some((12, 2, 10))).note("one too many")?;
     check_eq(told(b"n,k,c,targets\n4,3,1,4294967296\n"), Some((11, 2, 7))).note("past 32 bits")?;
-    check_eq(told(b"n,k,c,targets\n4,3,1,15\n4,3,1,15\n"), Some((12, 3, 1))).note("a second value line")?;
+    check_eq(
+        told(b"n,k,c,targets\n4,3,1,15\n4,3,1,15\n"),
+        Some((12, 3, 1)),
+    ).note("a second value line")?;
     check_eq(told(b"n,k,c,targets\n4,3,1,15\n\n"), Some((14, 4, 1))).note("no site")
 }
 
 #[test]
 fn faults_of_the_site() -> Result<(), Fail> {
-    check_eq(told(b"k,n,c,targets\n3,4,1,15\n\nracks\n"), Some((10, 4, 1)))?;
-    check_eq(told(b"k,n,c,targets\n3,4,1,15\n\neach,racks\n"), Some((12, 5, 1)))?;
-    check_eq(told(b"k,n,c,targets\n3,4,1,15\n\neach,racks\n2,4\n2,4\n"), Some((12, 6, 1)))?;
+    check_eq(
+        told(b"k,n,c,targets\n3,4,1,15\n\nracks\n"),
+        Some((10, 4, 1)),
+    )?;
+    check_eq(
+        told(b"k,n,c,targets\n3,4,1,15\n\neach,racks\n"),
+        Some((12, 5, 1)),
+    )?;
+    check_eq(
+        told(b"k,n,c,targets\n3,4,1,15\n\neach,racks\n2,4\n2,4\n"),
+        Some((12, 6, 1)),
+    )?;
     check_eq(told(b"k,n,c,targets\n3,4,1,15\n\neach,racks\n2,4\n"), None)?;
-    check_eq(told(b"k,n,c,targets\n3,4,1,15\n\nnode,rack,keep\n0,31,y\n2,32,n\n"), Some((13, 6, 1)))?;
-    check_eq(told(b"k,n,c,targets\n3,4,1,15\n\nkeep,rack,node\nx,0,5\n"), Some((11, 5, 1)))?;
+    check_eq(
+        told(b"k,n,c,targets\n3,4,1,15\n\nnode,rack,keep\n0,31,y\n2,32,n\n"),
+        Some((13, 6, 1)),
+    )?;
+    check_eq(
+        told(b"k,n,c,targets\n3,4,1,15\n\nkeep,rack,node\nx,0,5\n"),
+        Some((11, 5, 1)),
+    )?;
     check_eq(told(b"k,n,c,targets\n3,4,1,15\n\nnode,rack,keep\n\n"), None)
 }
 
@@ -64,7 +82,13 @@ fn a_listing_is_read() -> Result<(), Fail> {
 
 // The number and the column of the fault of a call's line, under names in this order.
 fn told_call(order: [usize; 3], line: &[u8]) -> Option<(u8, u32)> {
-    match read_call(&order, Line { bytes: line, number: 9 }) {
+    match read_call(
+        &order,
+        Line {
+            bytes: line,
+            number: 9,
+        },
+    ) {
         Ok(_) => None,
         Err(fault) => Some((fault.kind.number(), fault.place.column)),
     }
@@ -74,12 +98,22 @@ fn told_call(order: [usize; 3], line: &[u8]) -> Option<(u8, u32)> {
 fn call_lines() -> Result<(), Fail> {
     check_eq(told_call([0, 1, 2], b""), Some((12, 1))).note("an empty line")?;
     check_eq(told_call([0, 1, 2], b"x,7,x"), Some((11, 1)))?;
-    check_eq(told_call([2, 1, 0], b"x,7,x"), Some((11, 5))).note("rest is not judged where the letter is unknown")?;
-    check_eq(told_call([2, 1, 0], b"x,7,o"), Some((11, 1))).note("and it is where the letter is known")?;
+    check_eq(told_call([2, 1, 0], b"x,7,x"), Some((11, 5))).note(
+        "rest is not judged where the letter is unknown",
+    )?;
+    check_eq(told_call([2, 1, 0], b"x,7,o"), Some((11, 1))).note(
+        "and it is where the letter is known",
+    )?;
     check_eq(told_call([0, 1, 2], b"s,7,65536"), Some((11, 5)))?;
     check_eq(told_call([0, 1, 2], b"p,7"), Some((12, 4)))?;
     check_eq(told_call([0, 1, 2], b"o,7,"), None)?;
-    match read_call(&[1, 2, 0], Line { bytes: b"101,0 2 65535,o", number: 9 }) {
+    match read_call(
+        &[1, 2, 0],
+        Line {
+            bytes: b"101,0 2 65535,o",
+            number: 9,
+        },
+    ) {
         Ok(call) => match call.asked {
             Asked::Offer(list) => check_eq((call.first, list.len, list.nodes[2]), (101, 3, 65535)),
             _ => Err(Fail::new("another call")),

@@ -31,7 +31,7 @@ returns-in-Break-place c =
     let is = c .args .order .now in
     let p = err-from-errBy (c .from-residual .result) (c .from-residual .ensures .1) in
     rw (p .1, p .2) (least-same (NodesFault is (l .number) (c .loop-line .count) (leftOf l)) (NodesFault is (c .args .lines .now .number) 0 (leftOf (c .args .lines .now))) _ (i .0)
-      (turn-wrong is (l .number) (c .loop-line .count) (leftOf l) (c .in-Some .line) _ _ (c .in-Some .ensures tt .next) (c .in-Some .ensures tt .short) (not-zero _ (eqb-false _ 0 (sym (c .if-is-empty .ensures tt)))) _ (c .in-Break-place .ensures tt)))
+    (turn-wrong is (l .number) (c .loop-line .count) (leftOf l) (c .in-Some .line) _ _ (c .in-Some .ensures tt .next) (c .in-Some .ensures tt .short) (not-zero _ (eqb-false _ 0 (sym (c .if-is-empty .ensures tt)))) _ (c .in-Break-place .ensures tt)))
 
 pub loop-line-less : need.loop-line-less
 loop-line-less c =
@@ -54,10 +54,9 @@ loop-line-again c =
     let short = c .in-Some .ensures tt .short in
     let some : 0 < length (line .bytes .now) = not-zero _ (eqb-false _ 0 (sym (c .if-is-empty .ensures tt))) in
     let room : count < length table = omega (arith, read .few, i .6) in
-    let past = turn-past is (l .number) count (leftOf l) line (leftOf next) (next .number) t short some in
-    (
+    let past = turn-past is (l .number) count (leftOf l) line (leftOf next) (next .number) t short some in (
       same-then (NodesFault is (next .number) (count + 1) (leftOf next)) (NodesFault is (l .number) count (leftOf l)) (NodesFault is (c .args .lines .now .number) 0 (leftOf (c .args .lines .now)))
-        (turn-right is (l .number) count (leftOf l) line (leftOf next) (next .number) t short some (read .clean)) (i .0),
+          (turn-right is (l .number) count (leftOf l) line (leftOf next) (next .number) t short some (read .clean)) (i .0),
       (λ ps more. subst (NodesText is 0 (leftOf (c .args .lines .now))) (sym (front-more table count place ps room))
           (i .1 (place ∷ ps) (turn-said is (l .number) count (leftOf l) line (leftOf next) (next .number) t short some place ps (read .text) more))),
       back-more (c .args .table .now) table count place (i .2),

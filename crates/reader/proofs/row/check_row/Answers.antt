@@ -18,7 +18,7 @@ returns-in-Some c =
     let m = c .in-Some .ensures tt in
     least-same _ row _ (at-name (c .args .form) (l .place .line) (endOf l) order n (cellsLeft l) row (c .loop-name .inv) (omega arith))
     (wrong-field (c .args .form) (l .place .line) (endOf l) (getD order n 0) (drop (n + 1) order) (cellsLeft l) _ (l .place .column) _ _ (c .in-Field .bytes) (c .in-Field .place) (c .in-Some .kind) (c .in-Field .ensures tt) (lexer-rises l)
-      (subst (λ w. Misfit w (c .in-Field .bytes .now) (c .in-Some .kind)) (c .wants .ensures) (m .0)) (λ j p. m .1 j (subst (λ w. Misfit w (c .in-Field .bytes .now) j) (sym (c .wants .ensures)) p)))
+    (subst (λ w. Misfit w (c .in-Field .bytes .now) (c .in-Some .kind)) (c .wants .ensures) (m .0)) (λ j p. m .1 j (subst (λ w. Misfit w (c .in-Field .bytes .now) j) (sym (c .wants .ensures)) p)))
 
 pub returns-in-End : need.returns-in-End
 returns-in-End c =
@@ -37,7 +37,7 @@ loop-name-again c =
     let row = RowFault (c .args .form) order (c .args .line .number) (take 65536 (c .args .line .bytes .now)) in
     same-then _ _ row
     (right-field (c .args .form) (l .place .line) (endOf l) (getD order n 0) (drop (n + 1) order) (cellsLeft l) _ _ _ (c .in-Field .bytes) (c .in-Field .place) (c .in-Field .ensures tt)
-      (subst (λ w. Fit w (c .in-Field .bytes .now)) (c .wants .ensures) (c .in-rest .ensures tt)))
+    (subst (λ w. Fit w (c .in-Field .bytes .now)) (c .wants .ensures) (c .in-rest .ensures tt)))
     (at-name (c .args .form) (l .place .line) (endOf l) order n (cellsLeft l) row (c .loop-name .inv) (omega arith))
 
 pub returns-in-Field-next-token : need.returns-in-Field-next-token
