@@ -1,49 +1,42 @@
 -- What is written reads back.
 use mathlib.Core.Path.{_≡_, refl, sym, ap, subst, _∙_}
-use mathlib.Core.Bool.{Bool, true, false, cond}
+use mathlib.Core.Bool.{true, false, cond}
 use mathlib.Core.List.{List, [], _∷_, map}
-use mathlib.Core.Logic.{_⊎_, inl, inr, ⊎-elim}
+use mathlib.Core.Logic.{⊎-elim}
 use Prim.Native.Nat.{ℕ, zero, suc, _+_, _≤_, _<_}
 use native.Mathlib.Omega.{arith}
 use lib.Dec.{eqb}
 use lib.ListN.{length, getD, take, drop}
 use Rattle.std.specs.Written.{decimal}
 use Rattle.std.specs.shelf.Lists.{All}
-use Rattle.std.specs.declared.option.Option.{Option}
-use Rattle.std.specs.declared.option.Option.the-variants.{Some, None}
+use Rattle.std.specs.declared.option.Option.the-variants.{Some}
 use Rattle.std.proofs.shelf.Tests.{eq-eqb, or-left, or-right, or-cases, eqb-true, both-ways}
 use Rattle.site.specs.Site.{Place}
 use Rattle.site.specs.declared.Mark.{Mark}
 use Rattle.site.specs.declared.Mark.the-variants.{Yes, No}
-use Rattle.text.specs.Cells.{Cell, cells, cellsFrom}
+use Rattle.text.specs.Cells.{Cell, cells}
 use Rattle.text.specs.Faults.{at}
-use Rattle.text.specs.Orders.{elem, distinct, Apart}
+use Rattle.text.specs.Orders.{elem, Apart}
 use Rattle.text.specs.Pieces.{parted, linesOf}
-use Rattle.text.specs.declared.fault.Fault.{Fault}
-use Rattle.reader.specs.declared.act.Act.{Act}
-use Rattle.reader.specs.declared.act.Act.the-variants as act
 use Rattle.reader.specs.declared.calls.Asked.{Asked}
 use Rattle.reader.specs.declared.calls.Asked.the-variants.{Offer, Seal, Plan, Deletions, Release, Abandon}
 use Rattle.reader.specs.declared.calls.CallLine.{CallLine}
 use Rattle.reader.specs.declared.code.CodeValues.{CodeValues}
 use Rattle.reader.specs.declared.form.Form.{Form}
-use Rattle.reader.specs.declared.form.Form.the-variants.{Numbers, Node, Call, Unknown}
-use Rattle.reader.specs.declared.form.Want.{Want}
-use Rattle.reader.specs.declared.form.Want.the-variants.{Number, Next, Keep, Letter, Nodes, Nothing}
+use Rattle.reader.specs.declared.form.Form.the-variants.{Numbers, Node, Call}
+use Rattle.reader.specs.declared.form.Want.the-variants.{Number, Next}
 use Rattle.reader.specs.declared.sites.SiteValues.{SiteValues}
 use Rattle.reader.specs.declared.sites.SiteValues.the-variants.{Regular, Listed}
-use Rattle.reader.specs.Letters.{letter, letterOf}
 use Rattle.reader.specs.Wants.{Fit, wantOf, sayOf, markText}
 use Rattle.reader.specs.Rows.{FaultAt, RowFault, Clean, named}
 use Rattle.reader.specs.Names.{codeNames, regularNames, nodeNames, callNames, InOrder}
 use Rattle.reader.specs.Codes.{CodeFault, CodeText, codeText}
-use Rattle.reader.specs.Listings.{NodesFault, NodeText, nodeText, NodesText}
-use Rattle.reader.specs.Sites.{RegularFault, RegularText, regularText, SiteFault, SiteText}
-use Rattle.reader.specs.Calls.{callOf, formOf, callForm, CallFault, actOf, RestText, callText, CallText, CallOrder}
-use Rattle.reader.specs.Heads.{HeadFault}
-use Rattle.reader.specs.Backs.{Word, CodeWords, Places, SiteWords, Head-reads-back, One-code, SameSite, One-site, AskedWords, Call-reads-back}
+use Rattle.reader.specs.Listings.{NodesFault, nodeText, NodesText}
+use Rattle.reader.specs.Sites.{RegularFault, regularText, SiteFault, SiteText}
+use Rattle.reader.specs.Calls.{callOf, formOf, callForm, actOf, RestText, callText}
+use Rattle.reader.specs.Backs.{Word, CodeWords, Places, SiteWords, Head-reads-back, One-code, One-site, AskedWords, Call-reads-back}
 use Rattle.reader.proofs.WantLaws.{no-such, letter-back}
-use Rattle.reader.proofs.RowLaws.{Same, clean-same}
+use Rattle.reader.proofs.RowLaws.{clean-same}
 use Rattle.reader.proofs.FieldLaws.{bytesOf, bytes-from}
 use Rattle.reader.proofs.NameLaws.{code-apart, regular-apart, node-apart, one-order, order-names}
 use Rattle.reader.proofs.PickLaws.{picks-all}

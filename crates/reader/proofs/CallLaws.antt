@@ -1,30 +1,28 @@
 -- A call's line without fault says its call.
-use mathlib.Core.Path.{_≡_, refl, sym, ap, subst, _∙_}
+use mathlib.Core.Path.{_≡_, sym, ap, subst, _∙_}
 use mathlib.Core.Bool.{true}
-use mathlib.Core.List.{List, [], _∷_, map}
-use Prim.Native.Nat.{ℕ, zero, suc, _+_, _≤_, _<_}
+use mathlib.Core.List.{List}
+use Prim.Native.Nat.{ℕ, zero, suc, _<_}
 use native.Mathlib.Omega.{arith}
-use lib.ListN.{length}
 use Rattle.std.specs.Options.{valueOr}
-use Rattle.std.specs.Written.{decimal}
 use Rattle.std.specs.declared.option.Option.{Option}
 use Rattle.std.specs.declared.option.Option.the-variants.{Some, None}
-use Rattle.text.specs.Orders.{elem, distinct}
+use Rattle.text.specs.Orders.{elem}
 use Rattle.text.specs.Pieces.{parted}
 use Rattle.reader.specs.declared.act.Act.{Act}
 use Rattle.reader.specs.declared.act.Act.the-variants as act
 use Rattle.reader.specs.declared.calls.Asked.{Asked}
 use Rattle.reader.specs.declared.calls.CallLine.{CallLine}
 use Rattle.reader.specs.declared.form.Form.{Form}
-use Rattle.reader.specs.declared.form.Form.the-variants.{Call, Unknown}
-use Rattle.reader.specs.declared.form.Want.the-variants.{Number, Letter}
-use Rattle.reader.specs.Letters.{letter, letterOf}
+use Rattle.reader.specs.declared.form.Form.the-variants.{Call}
+use Rattle.reader.specs.declared.form.Want.the-variants.{Letter}
+use Rattle.reader.specs.Letters.{letterOf}
 use Rattle.reader.specs.Wants.{Fit, sayOf, wantOf}
 use Rattle.reader.specs.Rows.{RowFault, Clean, named}
 use Rattle.reader.specs.Names.{callNames, InOrder}
-use Rattle.reader.specs.Calls.{callOf, formOf, callForm, CallFault, actOf, RestText, callText, CallText, CallOrder, CallRead}
+use Rattle.reader.specs.Calls.{callOf, formOf, actOf, RestText, callText, CallText, CallRead}
 use Rattle.reader.proofs.WantLaws.{fit-letter}
-use Rattle.reader.proofs.FieldLaws.{FitsRow, row-fits, row-text, named-fits}
+use Rattle.reader.proofs.FieldLaws.{row-fits, row-text, named-fits}
 use Rattle.reader.proofs.NameLaws.{order-names}
 use Rattle.reader.proofs.PickLaws.{picks-all}
 use Rattle.reader.proofs.CodeLaws.{ReadAs}

@@ -1,8 +1,7 @@
 -- The earliest fault of the code part, line after line.
 use mathlib.Core.Path.{_≡_, refl, sym, ap, subst, _∙_}
-use mathlib.Core.Bool.{true}
 use mathlib.Core.List.{List, [], _∷_, map}
-use mathlib.Core.Logic.{_⊎_, inl, inr, ⊎-elim}
+use mathlib.Core.Logic.{inl, inr, ⊎-elim}
 use Prim.Native.Nat.{ℕ, zero, suc, _+_, _≤_, _<_}
 use native.Mathlib.Omega.{arith}
 use lib.ListN.{length, getD, drop, take}
@@ -12,19 +11,18 @@ use Rattle.std.specs.declared.option.Option.the-variants.{Some}
 use Rattle.std.specs.declared.result.Result.{Result}
 use Rattle.std.specs.declared.result.Result.the-variants.{Ok, Err}
 use Rattle.text.specs.Faults.{at, numberOf, NotAfter, Least}
-use Rattle.text.specs.Orders.{elem}
 use Rattle.text.specs.Pieces.{parted}
 use Rattle.text.specs.Rows.{NextLine}
 use Rattle.text.specs.declared.lines.Line.{Line}
 use Rattle.text.specs.declared.fault.Fault.{Fault}
-use Rattle.text.specs.declared.fault.FaultKind.the-variants.{Names, Count, Sheet}
+use Rattle.text.specs.declared.fault.FaultKind.the-variants.{Count, Sheet}
 use Rattle.reader.specs.declared.code.CodeValues.{CodeValues}
 use Rattle.reader.specs.declared.form.Form.the-variants.{Numbers}
 use Rattle.reader.specs.declared.form.Want.the-variants.{Number}
 use Rattle.reader.specs.Wants.{Fit}
 use Rattle.reader.specs.Rows.{RowFault, Clean, named}
-use Rattle.reader.specs.Names.{codeNames, InOrder, NoOrder, OrEmpty}
-use Rattle.reader.specs.Codes.{CodeFault, CodeEnd, CodeRead, CodeText, codeText}
+use Rattle.reader.specs.Names.{codeNames, InOrder, OrEmpty}
+use Rattle.reader.specs.Codes.{CodeFault, CodeEnd, CodeRead, codeText}
 use Rattle.reader.proofs.RowLaws.{same-not-after, row-line, row-empty}
 use Rattle.reader.proofs.LineLaws.{line-is}
 use Rattle.reader.proofs.FieldLaws.{row-fits, row-text}
@@ -39,14 +37,6 @@ code-none n =
           (⊎-elim (λ p. absurd (omega (arith, p .0)))
           (⊎-elim (λ p. absurd (omega (arith, order-some codeNames [] (p .0) (omega arith) (p .1)))) (λ p. absurd (omega (arith, p .0)))));
     }
-
-pub code-names : (n : ℕ) (l : List ℕ) (ls : List (List ℕ)) → NoOrder codeNames l → Least (CodeFault n (l ∷ ls)) (at Names n 1)
-code-names n l ls none = record {
-  there = inr (inl (omega arith, none, refl));
-  first = λ g. ⊎-elim (λ p. inl (omega (arith, ap (λ x. x .place .line) (p .1))))
-      (⊎-elim (λ p. same-not-after (at Names n 1) g (sym (p .2)))
-      (⊎-elim (λ p. absurd (none (p .0) (p .1))) (λ p. inl (omega (arith, ap (λ x. x .place .line) (p .1))))));
-}
 
 module _ (n : ℕ) (l is : List ℕ) (o : InOrder codeNames l is) where
   filled : 0 < length is

@@ -1,23 +1,20 @@
 -- The field under a name.
 use mathlib.Core.Path.{_≡_, refl, sym, ap, subst, _∙_}
-use mathlib.Core.Bool.{Bool, true, false, cond, not, _&&_, _||_}
+use mathlib.Core.Bool.{true, false, cond}
 use mathlib.Core.List.{List, [], _∷_, map}
-use mathlib.Core.Logic.{_⊎_, inl, inr, ⊎-elim}
-use Prim.Native.Nat.{ℕ, _+_, _≤_, _<_}
-use native.Mathlib.Omega.{arith}
+use mathlib.Core.Logic.{inl, inr, ⊎-elim}
+use Prim.Native.Nat.{ℕ, _+_}
 use denote.Ref.{RefT}
 use lib.Dec.{eqb}
 use lib.ListN.{length}
-use Rattle.std.specs.declared.option.Option.{Option}
 use Rattle.std.specs.declared.option.Option.the-variants.{Some, None}
-use Rattle.std.proofs.shelf.Tests.{or-cases, eqb-true, eqb-false, cases-eq, eq-eqb, ne-eqb, and-parts, not-true, both-ways, or-left, or-right}
+use Rattle.std.proofs.shelf.Tests.{or-cases, cases-eq, eq-eqb, ne-eqb, and-parts, not-true, both-ways, or-left, or-right}
 use Rattle.text.specs.Cells.{Cell, cells, cellsFrom, NextToken}
 use Rattle.text.specs.Faults.{at}
 use Rattle.text.specs.Orders.{elem, distinct}
 use Rattle.text.specs.Pieces.{parted}
 use Rattle.text.specs.declared.place.Place.{Place}
 use Rattle.text.specs.declared.token.Token.the-variants as token
-use Rattle.text.specs.declared.fault.Fault.{Fault}
 use Rattle.text.specs.declared.fault.FaultKind.the-variants.{Count}
 use Rattle.reader.specs.declared.form.Form.{Form}
 use Rattle.reader.specs.Wants.{wantOf, Fit}

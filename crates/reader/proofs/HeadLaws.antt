@@ -1,28 +1,26 @@
 -- The earliest fault of code and site: every fault of the code part stands before all of the site part.
-use mathlib.Core.Path.{_≡_, refl, sym, ap, subst, _∙_}
+use mathlib.Core.Path.{_≡_, sym, ap, subst, _∙_}
 use mathlib.Core.List.{List, [], _∷_}
-use mathlib.Core.Logic.{_⊎_, inl, inr, ⊎-elim}
-use Prim.Native.Nat.{ℕ, _+_, _≤_, _<_}
+use mathlib.Core.Logic.{inl, inr, ⊎-elim}
+use Prim.Native.Nat.{ℕ, _+_, _≤_}
 use native.Mathlib.Omega.{arith}
 use lib.ListN.{length, getD, drop, take}
 use Rattle.std.proofs.shelf.Lists.{take-all}
 use Rattle.site.specs.Site.{Place}
-use Rattle.text.specs.Faults.{at, numberOf, NotAfter, Least}
+use Rattle.text.specs.Faults.{Least}
 use Rattle.text.specs.Pieces.{linesOf}
 use Rattle.text.specs.Rows.{leftOf}
 use Rattle.text.specs.declared.lines.Lines.{Lines}
 use Rattle.text.specs.declared.fault.Fault.{Fault}
-use Rattle.text.specs.declared.fault.FaultKind.the-variants.{Names, Count, Sheet}
 use Rattle.reader.specs.declared.code.CodeValues.{CodeValues}
 use Rattle.reader.specs.declared.sites.SiteValues.{SiteValues}
-use Rattle.reader.specs.declared.head.Head.{Head}
 use Rattle.reader.specs.declared.form.Form.the-variants.{Numbers}
-use Rattle.reader.specs.Rows.{RowFault, Clean}
-use Rattle.reader.specs.Codes.{CodeFault, CodeRead, CodeText}
+use Rattle.reader.specs.Rows.{Clean}
+use Rattle.reader.specs.Codes.{CodeFault, CodeRead}
 use Rattle.reader.specs.Listings.{pastPart, pastNumber}
 use Rattle.reader.specs.Sites.{SiteFault, SiteRead, SiteText}
 use Rattle.reader.specs.Heads.{LinesFault, HeadFault, HeadRead}
-use Rattle.reader.proofs.RowLaws.{Same, same-not-after, row-line, least-same, clean-same}
+use Rattle.reader.proofs.RowLaws.{Same, row-line, least-same, clean-same}
 use Rattle.reader.proofs.ListingLaws.{nodes-line}
 
 code-lines : (n : ℕ) (ls : List (List ℕ)) (f : Fault) → CodeFault n ls f → f .place .line ≤ n + 2
@@ -84,6 +82,3 @@ module _ (sheet : List ℕ) (short : length sheet ≤ 65536) where
       calls = s .after-it ∙ ap pastPart (read .after-it);
       number = s .next ∙ (λ x. pastNumber (read .next x) (read .after-it x));
     }
-
-pub head-long : (sheet : List ℕ) → 65536 < length sheet → Least (HeadFault sheet) (at Sheet 1 1)
-head-long sheet h = record { there = inl (h, refl); first = λ g. ⊎-elim (λ p. same-not-after _ g (sym (p .1))) (λ p. absurd (omega (arith, p .0))) }

@@ -1,13 +1,12 @@
 -- The next line, and lines that are missing.
-use mathlib.Core.Path.{_≡_, refl, sym, ap, subst, _∙_}
+use mathlib.Core.Path.{_≡_, refl, sym, ap, _∙_}
 use mathlib.Core.List.{List, [], _∷_}
-use Prim.Native.Nat.{ℕ, _+_, _≤_, _<_}
+use Prim.Native.Nat.{ℕ, _+_, _≤_}
 use native.Mathlib.Omega.{arith}
-use lib.ListN.{length, take}
+use lib.ListN.{length}
 use Rattle.std.specs.declared.option.Option.the-variants.{Some, None}
 use Rattle.std.proofs.shelf.Lists.{take-all}
-use Rattle.std.specs.declared.result.Result.the-variants.{Ok, Err}
-use Rattle.text.specs.Faults.{at}
+use Rattle.std.specs.declared.result.Result.the-variants.{Ok}
 use Rattle.text.specs.Rows.{NextLine}
 use Rattle.text.specs.declared.lines.Line.{Line}
 use Rattle.reader.specs.Names.{OrEmpty}
@@ -24,10 +23,6 @@ line-none (l ∷ ls) n after m t = absurd t
 pub or-empty-some : (ls : List (List ℕ)) (n : ℕ) (line : Line) (after : List (List ℕ)) (m : ℕ) → NextLine ls n (Some line) after m → length (line .bytes .now) ≤ 65536 → OrEmpty ls n line after m
 or-empty-some [] n line after m t s = absurd t
 or-empty-some (l ∷ ls) n line after m t s = record { bytes = take-all 65536 (line .bytes .now) s ∙ t .0; number = t .1; after-it = t .2; next = λ _. t .3 }
-
-pub or-empty-none : (ls : List (List ℕ)) (n : ℕ) (line : Line) (after : List (List ℕ)) (m : ℕ) → NextLine ls n None after m → line .bytes .now ≡ [] → line .number ≡ n → OrEmpty ls n line after m
-or-empty-none [] n line after m t e f = record { bytes = ap (take 65536) e; number = f; after-it = t .0; next = λ h. absurd (omega arith) }
-or-empty-none (l ∷ ls) n line after m t e f = absurd t
 
 pub no-bytes : (bs : List ℕ) → length bs ≡ 0 → bs ≡ []
 no-bytes [] h = refl

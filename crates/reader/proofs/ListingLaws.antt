@@ -1,40 +1,36 @@
 -- The earliest fault of a node listing, line after line, and the places that its lines say.
 use mathlib.Core.Path.{_≡_, refl, sym, ap, subst, _∙_}
-use mathlib.Core.Bool.{Bool, true, false, cond, not, _&&_, _||_}
-use mathlib.Core.List.{List, [], _∷_, _++_, map, append-assoc, append-nil}
+use mathlib.Core.Bool.{true, false, cond}
+use mathlib.Core.List.{List, [], _∷_, _++_, append-assoc, append-nil}
 use mathlib.Core.Logic.{_⊎_, inl, inr, ⊎-elim}
 use Prim.Native.Nat.{ℕ, zero, suc, _+_, _≤_, _<_}
 use native.Mathlib.Omega.{arith}
 use lib.Dec.{eqb}
-use lib.ListN.{length, getD, drop, take, set}
-use Rattle.std.specs.Options.{Cases as BySome}
+use lib.ListN.{length, drop, take, set}
 use Rattle.std.specs.Reads.{value}
 use Rattle.std.specs.Written.{decimal}
 use Rattle.std.specs.shelf.Lists.{All}
-use Rattle.std.specs.declared.option.Option.{Option}
 use Rattle.std.specs.declared.option.Option.the-variants.{Some, None}
 use Rattle.std.proofs.shelf.Lists.{take-more-set, drop-set-lt, drop-drop, take-all}
-use Rattle.std.proofs.shelf.Tests.{cases-bool, both-ways, cases-eq, cases-lt, eqb-true, or-cases, eq-eqb, lt-ltb}
-use Rattle.std.proofs.shelf.Ways.{tells}
+use Rattle.std.proofs.shelf.Tests.{cases-bool, both-ways, cases-eq, cases-lt, eqb-true, or-cases, lt-ltb}
 use Rattle.std.proofs.shelf.Elements.{all-push}
 use Rattle.site.specs.Site.{Place}
 use Rattle.site.specs.Maps.{window, listed}
 use Rattle.site.specs.declared.Mark.{Mark}
-use Rattle.text.specs.Faults.{at, numberOf, NotAfter, Least}
+use Rattle.text.specs.Faults.{Least}
 use Rattle.text.specs.Numbers.{isNumber}
-use Rattle.text.specs.Orders.{elem, distinct}
+use Rattle.text.specs.Orders.{elem}
 use Rattle.text.specs.Pieces.{parted}
 use Rattle.text.specs.Rows.{NextLine}
 use Rattle.text.specs.declared.lines.Line.{Line}
 use Rattle.text.specs.declared.fault.Fault.{Fault}
 use Rattle.text.specs.declared.fault.FaultKind.the-variants as kind
 use Rattle.text.proofs.NumberLaws.{number-is, number-taken}
-use Rattle.reader.specs.declared.form.Form.{Form}
 use Rattle.reader.specs.declared.form.Form.the-variants.{Node}
-use Rattle.reader.specs.declared.form.Want.the-variants.{Number, Next, Keep}
-use Rattle.reader.specs.Wants.{Fit, Marked, markText, wantOf}
+use Rattle.reader.specs.declared.form.Want.the-variants.{Next, Keep}
+use Rattle.reader.specs.Wants.{Fit, markText, wantOf}
 use Rattle.reader.specs.Rows.{RowFault, Clean, named}
-use Rattle.reader.specs.Names.{nodeNames, InOrder}
+use Rattle.reader.specs.Names.{nodeNames}
 use Rattle.reader.specs.Listings.{NodeOrder, NodesFault, NodeText, nodeText, NodesText, NodeRead, NodesRead, pastPart, pastNumber}
 use Rattle.reader.proofs.LineLaws.{line-is, line-none, no-bytes}
 use Rattle.reader.proofs.RowLaws.{Same, row-line, clean-same}

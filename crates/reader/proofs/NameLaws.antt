@@ -1,9 +1,9 @@
 -- Names that begin with different letters differ, so that a names line has one order at most.
 use mathlib.Core.Path.{_≡_, refl, sym, ap, subst, _∙_}
-use mathlib.Core.Bool.{Bool, true, false, cond, not, _&&_, _||_}
+use mathlib.Core.Bool.{true, false}
 use mathlib.Core.List.{List, [], _∷_, map}
-use mathlib.Core.Logic.{_⊎_, inl, inr, ⊎-elim}
-use Prim.Native.Nat.{ℕ, zero, suc, _+_, _≤_, _<_}
+use mathlib.Core.Logic.{⊎-elim}
+use Prim.Native.Nat.{ℕ, zero, suc, _<_}
 use native.Mathlib.Omega.{arith}
 use lib.Dec.{eqb}
 use lib.ListN.{length, getD, length-map}
@@ -11,10 +11,10 @@ use Rattle.std.specs.shelf.Lists.{All}
 use Rattle.std.specs.declared.option.Option.{Option}
 use Rattle.std.specs.declared.option.Option.the-variants.{Some, None}
 use Rattle.std.proofs.shelf.Tests.{and-parts, eqb-true, eq-eqb, or-right, or-left, not-true, both-ways, or-cases}
-use Rattle.text.specs.Orders.{elem, distinct, Order, Apart, Ordered, orderOf}
+use Rattle.text.specs.Orders.{elem, distinct, Order, Apart, Ordered}
 use Rattle.text.specs.Pieces.{parted}
 use Rattle.text.proofs.OrderExact.{order-found}
-use Rattle.reader.specs.Names.{codeNames, regularNames, nodeNames, callNames, InOrder, NoOrder, OrderFound}
+use Rattle.reader.specs.Names.{codeNames, regularNames, nodeNames, callNames, InOrder, OrderFound}
 
 pub elem-at : (xs : List ℕ) (j x : ℕ) → j < length xs → getD xs j 0 ≡ x → elem x xs ≡ true
 elem-at [] j x h e = absurd (omega arith)

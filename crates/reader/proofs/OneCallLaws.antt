@@ -1,9 +1,8 @@
 -- A call's line is the text of one call at most.
 use mathlib.Core.Path.{_≡_, refl, sym, ap, subst, _∙_}
 use mathlib.Core.List.{List, [], _∷_, _++_, map}
-use Prim.Native.Nat.{ℕ, _+_, _≤_, _<_}
+use Prim.Native.Nat.{ℕ, _≤_, _<_}
 use native.Mathlib.Omega.{arith}
-use lib.ListN.{length, getD}
 use Rattle.std.specs.Joined.{joined}
 use Rattle.std.specs.Written.{decimal}
 use Rattle.std.specs.shelf.Lists.{All}
@@ -13,20 +12,14 @@ use Rattle.std.proofs.shelf.Elements.{all-from-getD}
 use Rattle.text.specs.NodeLists.{kept}
 use Rattle.text.specs.Pieces.{parted, glued}
 use Rattle.text.specs.Spaced.{spaced}
-use Rattle.text.specs.declared.nodes.NodeList.{NodeList}
 use Rattle.text.proofs.GlueLaws.{Free, parted-glued}
 use Rattle.text.proofs.NumberLaws.{all-digits}
-use Rattle.reader.specs.declared.act.Act.{Act}
-use Rattle.reader.specs.declared.act.Act.the-variants as act
 use Rattle.reader.specs.declared.calls.Asked.{Asked}
 use Rattle.reader.specs.declared.calls.Asked.the-variants.{Offer, Seal, Plan, Deletions, Release, Abandon}
-use Rattle.reader.specs.declared.calls.CallLine.{CallLine}
-use Rattle.reader.specs.Letters.{letter, letterOf}
-use Rattle.reader.specs.Names.{callNames, InOrder}
-use Rattle.reader.specs.Calls.{actOf, RestText, callText, CallText, CallOrder}
-use Rattle.reader.specs.Backs.{Word, AskedWords, One-call}
+use Rattle.reader.specs.Letters.{letter}
+use Rattle.reader.specs.Calls.{actOf, RestText, callText}
+use Rattle.reader.specs.Backs.{AskedWords, One-call}
 use Rattle.reader.proofs.WantLaws.{letter-back}
-use Rattle.reader.proofs.NameLaws.{call-apart}
 use Rattle.reader.proofs.BackLaws.{same-word, same-map}
 use Rattle.reader.proofs.PickLaws.{picks-all}
 

@@ -1,14 +1,14 @@
 -- n numbers below n, each once, are all of them.
-use mathlib.Core.Path.{_≡_, refl, sym, ap, subst, _∙_}
-use mathlib.Core.Bool.{Bool, true, false, cond, not, _&&_, _||_}
+use mathlib.Core.Path.{_≡_, refl, ap, subst}
+use mathlib.Core.Bool.{true, false, cond, not}
 use mathlib.Core.List.{List, [], _∷_}
-use mathlib.Core.Logic.{_⊎_, inl, inr, ⊎-elim}
+use mathlib.Core.Logic.{⊎-elim}
 use Prim.Native.Nat.{ℕ, zero, suc, _+_, _≤_, _<_}
 use native.Mathlib.Omega.{arith}
 use lib.Dec.{eqb}
 use lib.ListN.{length}
 use Rattle.std.specs.shelf.Lists.{All}
-use Rattle.std.proofs.shelf.Tests.{cases-bool, both-ways, not-true, and-parts, and-from, not-from-false, eqb-true, eqb-false, or-cases, or-parts, or-from}
+use Rattle.std.proofs.shelf.Tests.{cases-bool, not-true, and-parts, and-from, not-from-false, eqb-true, eqb-false, or-parts, or-from}
 use Rattle.text.specs.Orders.{elem, distinct}
 
 without : ℕ → List ℕ → List ℕ

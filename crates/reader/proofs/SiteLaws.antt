@@ -1,32 +1,31 @@
 -- The earliest fault of the site part.
 use mathlib.Core.Path.{_≡_, refl, sym, ap, subst, _∙_}
-use mathlib.Core.List.{List, [], _∷_, map}
-use mathlib.Core.Logic.{_⊎_, inl, inr, ⊎-elim}
-use Prim.Native.Nat.{ℕ, zero, suc, _+_, _≤_, _<_}
+use mathlib.Core.List.{List, [], _∷_}
+use mathlib.Core.Logic.{inl, inr, ⊎-elim}
+use Prim.Native.Nat.{ℕ, zero, suc, _+_, _<_}
 use native.Mathlib.Omega.{arith}
 use lib.ListN.{length, getD, drop, take}
 use Rattle.std.specs.Results.{Cases}
-use Rattle.std.specs.declared.option.Option.the-variants.{Some, None}
+use Rattle.std.specs.declared.option.Option.the-variants.{Some}
 use Rattle.std.specs.declared.result.Result.{Result}
 use Rattle.std.specs.declared.result.Result.the-variants.{Ok, Err}
 use Rattle.site.specs.Site.{Place}
-use Rattle.text.specs.Faults.{at, numberOf, NotAfter, Least}
+use Rattle.text.specs.Faults.{at, Least}
 use Rattle.text.specs.Pieces.{parted}
 use Rattle.text.specs.Rows.{NextLine}
 use Rattle.text.specs.declared.lines.Line.{Line}
 use Rattle.text.specs.declared.fault.Fault.{Fault}
-use Rattle.text.specs.declared.fault.FaultKind.the-variants.{Names, Count, Sheet}
+use Rattle.text.specs.declared.fault.FaultKind.the-variants.{Count}
 use Rattle.reader.specs.declared.form.Form.the-variants.{Numbers}
 use Rattle.reader.specs.declared.form.Want.the-variants.{Number}
-use Rattle.reader.specs.declared.sites.SiteValues.{SiteValues}
 use Rattle.reader.specs.declared.sites.SiteValues.the-variants.{Regular, Listed}
 use Rattle.reader.specs.Wants.{Fit}
 use Rattle.reader.specs.Rows.{RowFault, Clean, named}
-use Rattle.reader.specs.Names.{regularNames, nodeNames, InOrder, NoOrder, OrEmpty}
+use Rattle.reader.specs.Names.{regularNames, nodeNames, InOrder, OrEmpty}
 use Rattle.reader.specs.Listings.{NodesFault, NodesRead, pastPart, pastNumber}
 use Rattle.reader.specs.Sites.{RegularFault, RegularText, regularText, RegularRead, RegularEnd, SiteFault, SiteText, SiteRead}
 use Rattle.reader.proofs.RowLaws.{Same, same-not-after, row-line, row-empty, least-same, clean-same}
-use Rattle.reader.proofs.LineLaws.{line-is, line-none, no-bytes}
+use Rattle.reader.proofs.LineLaws.{line-is, no-bytes}
 use Rattle.reader.proofs.FieldLaws.{row-fits, row-text}
 use Rattle.reader.proofs.NameLaws.{regular-apart, node-apart, one-order, order-some, order-names, order-fields}
 use Rattle.reader.proofs.CodeLaws.{ReadAs}
@@ -95,12 +94,6 @@ pub two-or-three : (l is js : List ℕ) → InOrder regularNames l is → InOrde
 two-or-three l is js o p = omega (arith, order-fields regularNames l is o, order-fields nodeNames l js p)
 
 module _ (n : ℕ) (l : List ℕ) (ls : List (List ℕ)) where
-  pub site-names : NoOrder regularNames l → NoOrder nodeNames l → Least (SiteFault n (l ∷ ls)) (at Names n 1)
-  site-names a b = record {
-    there = inl (a, b, refl);
-    first = λ g. ⊎-elim (λ p. same-not-after _ g (sym (p .2))) (⊎-elim (λ p. absurd (a (p .0) (p .1))) (λ p. absurd (b (p .0) (p .1))));
-  }
-
   pub regular-same : (is : List ℕ) → InOrder regularNames l is → Same (RegularFault is (n + 1) ls) (SiteFault n (l ∷ ls))
   regular-same is o f = (
     (λ h. inr (inl (is, o, h))),
@@ -118,19 +111,12 @@ past-names n [] ls h = absurd (omega arith)
 past-names n (b ∷ bs) ls h = (refl, refl)
 
 -- the site part as it is read
-pub site-none : (ls : List (List ℕ)) (n : ℕ) (after : List (List ℕ)) (m : ℕ) → NextLine ls n None after m → Least (SiteFault n ls) (at Sheet n 1)
-site-none [] n after m t = record { there = refl; first = λ g h. same-not-after _ g (sym h) }
-site-none (l ∷ ls) n after m t = absurd t
-
 module _ (ls : List (List ℕ)) (n : ℕ) (names : Line) (mid : List (List ℕ)) (m : ℕ) (t : NextLine ls n (Some names) mid m) where
   lines-are : ls ≡ names .bytes .now ∷ mid
   lines-are = line-is ls n names mid m t .0
 
   next-at : m ≡ n + 1
   next-at = line-is ls n names mid m t .2
-
-  pub site-names-read : NoOrder regularNames (names .bytes .now) → NoOrder nodeNames (names .bytes .now) → Least (SiteFault n ls) (at Names n 1)
-  site-names-read a b = subst (λ l. Least (SiteFault n l) (at Names n 1)) (sym lines-are) (site-names n (names .bytes .now) mid a b)
 
   regular-faults : (is : List ℕ) → InOrder regularNames (names .bytes .now) is → Same (RegularFault is m mid) (SiteFault n ls)
   regular-faults is o = subst (λ l. Same (RegularFault is m mid) (SiteFault n l)) (sym lines-are) (subst (λ k. Same (RegularFault is k mid) (SiteFault n (names .bytes .now ∷ mid))) (sym next-at) (regular-same n (names .bytes .now) mid is o))

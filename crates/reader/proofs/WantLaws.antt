@@ -1,35 +1,32 @@
 -- A field is judged by reading it: what cannot be read is its fault.
 use mathlib.Core.Path.{_≡_, refl, sym, ap, subst, _∙_}
-use mathlib.Core.Bool.{Bool, true, false, cond}
+use mathlib.Core.Bool.{Bool, false}
 use mathlib.Core.List.{List, [], _∷_}
-use mathlib.Core.Logic.{_⊎_, inl, inr, ⊎-elim}
-use Prim.Native.Nat.{ℕ, _≤_, _<_}
+use mathlib.Core.Logic.{⊎-elim}
+use Prim.Native.Nat.{ℕ, _≤_}
 use native.Mathlib.Omega.{arith}
 use lib.Dec.{eqb}
 use lib.ListN.{length, getD}
 use Rattle.std.specs.Options.{Cases as BySome, isSome, valueOr}
 use Rattle.std.specs.Written.{decimal}
-use Rattle.std.specs.Reads.{value}
 use Rattle.std.specs.declared.option.Option.{Option}
 use Rattle.std.specs.declared.option.Option.the-variants.{Some, None}
 use Rattle.std.proofs.shelf.Ways.{tells}
-use Rattle.std.proofs.shelf.Tests.{cases-bool, both-ways}
 use Rattle.site.specs.declared.Mark.{Mark}
-use Rattle.site.specs.declared.Mark.the-variants.{Yes, No}
-use Rattle.text.specs.Numbers.{Numbered, isNumber}
+use Rattle.text.specs.Numbers.{Numbered}
 use Rattle.text.specs.NodeLists.{nodeList, kept, Listed}
 use Rattle.text.specs.Spaced.{spaced}
 use Rattle.std.specs.shelf.Lists.{All}
 use Rattle.text.specs.declared.nodes.NodeList.{NodeList}
-use Rattle.text.proofs.NumberLaws.{number-is, number-taken, exact-is}
+use Rattle.text.proofs.NumberLaws.{exact-is}
 use Rattle.text.specs.declared.fault.FaultKind.{FaultKind}
 use Rattle.text.specs.declared.fault.FaultKind.the-variants as kind
 use Rattle.reader.specs.Letters.{letterOf, letter, byteAct, Lettered}
 use Rattle.reader.specs.declared.act.Act.{Act}
 use Rattle.reader.specs.declared.act.Act.the-variants.{Offer, Seal, Plan, Deletions, Release, Abandon}
 use Rattle.reader.specs.declared.form.Want.{Want}
-use Rattle.reader.specs.declared.form.Want.the-variants.{Number, Next, Keep, Letter, Nodes, Nothing, Anything}
-use Rattle.reader.specs.Wants.{Misfit, Fit, Judged, Marked, NoNumber, NotNext, unlessFits, markText}
+use Rattle.reader.specs.declared.form.Want.the-variants.{Number, Next, Keep, Letter, Nodes, Nothing}
+use Rattle.reader.specs.Wants.{Misfit, Fit, Judged, Marked, NoNumber, unlessFits, markText}
 
 -- where a fault means that nothing can be read (N), and something read (S) rules it out, reading judges
 pub judged-by : {A : Type 0} (w : Want) (bs : List ℕ) (N : Type 0) (S : A → Type 0) → ((k : FaultKind) → Misfit w bs k → (k ≡ kind.Field) × N) → (N → Misfit w bs kind.Field) → ((a : A) → S a → N → ⊥) → (r : Option A) → BySome r N S → (b : Bool) (o : Option FaultKind) → b ≡ isSome r → o ≡ unlessFits b → Judged w bs o
@@ -65,12 +62,6 @@ no-such bs v e h u f k =
     let q = exact-is 4294967295 bs (Some u) (omega arith) (k, f) in
     cc
 
-pub next-unread : (count : ℕ) (bs : List ℕ) → NoNumber 4294967295 bs → Judged (Next count) bs (Some kind.Field)
-next-unread count bs n = (inl (refl, n), λ j m. ⊎-elim (λ p. p .0) (λ p. absurd (n (p .1 .0) (p .1 .1) (p .1 .2))) m)
-
-pub next-wrong : (count : ℕ) (bs : List ℕ) (v : ℕ) → v ≤ 4294967295 → bs ≡ decimal v → (v ≡ count → ⊥) ⊎ (255 < v) → Judged (Next count) bs (Some kind.Node)
-next-wrong count bs v h e n = (inr (refl, (v, h, e, n)), λ j m. ⊎-elim (λ p. absurd (p .1 v h e)) (λ p. p .0) m)
-
 pub next-right : (count : ℕ) (bs : List ℕ) (v : ℕ) → v ≤ 4294967295 → bs ≡ decimal v → v ≡ count → v ≤ 255 → Judged (Next count) bs None
 next-right count bs v h e is le =
     λ k m. ⊎-elim (λ p. p .1 v h e) (λ p.
@@ -82,11 +73,6 @@ pub one-byte : (bs : List ℕ) → length bs ≡ 1 → bs ≡ getD bs 0 0 ∷ []
 one-byte [] h = absurd (omega arith)
 one-byte (b ∷ []) h = refl
 one-byte (b ∷ c ∷ bs) h = absurd (omega arith)
-
-pub letter-long : (bs : List ℕ) → (length bs ≡ 1 → ⊥) → None ≡ letter bs
-letter-long [] h = refl
-letter-long (b ∷ []) h = absurd (h refl)
-letter-long (b ∷ c ∷ bs) h = refl
 
 pub letter-back : (a : Act) → letter (letterOf a) ≡ Some a
 letter-back Offer = refl

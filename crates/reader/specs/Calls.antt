@@ -10,7 +10,6 @@ use Rattle.std.specs.declared.option.Option.{Option}
 use Rattle.std.specs.declared.option.Option.the-variants.{Some, None}
 use Rattle.text.specs.Faults.{at}
 use Rattle.text.specs.NodeLists.{kept}
-use Rattle.text.specs.Orders.{elem}
 use Rattle.text.specs.Pieces.{parted}
 use Rattle.text.specs.Spaced.{spaced}
 use Rattle.text.specs.declared.fault.Fault.{Fault}

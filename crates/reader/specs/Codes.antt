@@ -7,7 +7,7 @@ use lib.ListN.{length, getD, drop}
 use Rattle.std.specs.Written.{decimal}
 use Rattle.std.specs.declared.result.Result.{Result}
 use Rattle.std.specs.declared.result.Result.the-variants.{Ok, Err}
-use Rattle.text.specs.Faults.{at, Least}
+use Rattle.text.specs.Faults.{at}
 use Rattle.text.specs.Pieces.{parted}
 use Rattle.text.specs.declared.fault.Fault.{Fault}
 use Rattle.text.specs.declared.fault.FaultKind.the-variants.{Names, Count, Sheet}

@@ -1,7 +1,7 @@
 -- The names lines of a sheet.
 use mathlib.Core.Path.{_≡_}
 use mathlib.Core.List.{List, [], _∷_}
-use Prim.Native.Nat.{ℕ, _+_, _<_, _≤_}
+use Prim.Native.Nat.{ℕ, _+_, _<_}
 use lib.Chars.{codes}
 use lib.ListN.{length, getD, drop, take}
 use Rattle.std.specs.Options.{Cases as BySome}

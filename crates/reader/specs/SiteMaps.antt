@@ -1,9 +1,7 @@
 -- The map of a sheet's site.
 use mathlib.Core.Path.{_≡_}
-use mathlib.Core.List.{List}
-use Prim.Native.Nat.{ℕ}
 use denote.Ref.{now}
-use Rattle.site.specs.Site.{Site, Place, Limits}
+use Rattle.site.specs.Site.{Site, Limits}
 use Rattle.site.specs.Maps.{Fit, regular, listed}
 use Rattle.site.specs.Limits.{regular-limits, listed-limits}
 use Rattle.reader.specs.declared.maps.SiteKind.{SiteKind}

@@ -1,5 +1,4 @@
 // The code part of a sheet: a names line, one line of numbers, and an empty line.
-ghost use mathlib.Core.Path.{_≡_};
 ghost use Rattle.std.specs.Results.{Cases};
 ghost use Rattle.text.specs.Faults.{Least};
 ghost use Rattle.text.specs.Rows.{leftOf};

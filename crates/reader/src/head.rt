@@ -1,5 +1,4 @@
 // The code and the site of a sheet, which are read before anything is asked of them.
-ghost use mathlib.Core.Path.{_≡_};
 ghost use Rattle.std.specs.Results.{Cases};
 ghost use Rattle.text.specs.Faults.{Least};
 ghost use Rattle.reader.specs.Heads.{HeadFault, HeadRead};

@@ -1,5 +1,4 @@
 // The site part of a sheet: two numbers of a regular site, or a node listing.
-ghost use mathlib.Core.Path.{_≡_};
 ghost use mathlib.Core.List.{List};
 ghost use Prim.Native.Nat.{ℕ};
 ghost use Rattle.std.specs.Results.{Cases};

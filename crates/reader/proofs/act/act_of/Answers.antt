@@ -1,8 +1,7 @@
 use mathlib.Core.Path.{sym, ap, _∙_}
 use native.Mathlib.Omega.{arith}
-use borrow.Author.Needs.{needs}
 use Rattle.reader.specs.Letters.{letter}
-use Rattle.reader.proofs.WantLaws.{one-byte, letter-long, lettered}
+use Rattle.reader.proofs.WantLaws.{one-byte, lettered}
 use Rattle.reader.proofs.act.act_of.Needs as need
 
 pub returns : need.returns

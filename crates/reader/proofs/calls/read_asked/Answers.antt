@@ -1,6 +1,5 @@
 use mathlib.Core.Path.{sym, subst}
 use native.Mathlib.Omega.{arith}
-use borrow.Author.Needs.{needs}
 use Rattle.reader.specs.Wants.{Fit, sayOf}
 use Rattle.reader.proofs.WantLaws.{fit-nothing}
 use Rattle.reader.proofs.calls.read_asked.Needs as need

@@ -1,6 +1,4 @@
-use mathlib.Core.Logic.{inl, inr}
 use native.Mathlib.Omega.{arith}
-use borrow.Author.Needs.{needs}
 use Rattle.reader.proofs.WantLaws.{next-right}
 use Rattle.reader.proofs.form.misnumbered.Needs as need
 

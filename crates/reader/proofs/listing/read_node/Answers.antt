@@ -1,4 +1,3 @@
-use Rattle.std.proofs.shelf.Results.{err-from-errBy}
 use Rattle.reader.proofs.ListingLaws.{node-read}
 use Rattle.reader.proofs.listing.read_node.Needs as need
 

@@ -1,13 +1,11 @@
 use mathlib.Core.Path.{_≡_, sym, ap, subst, _∙_}
-use mathlib.Core.List.{List, _∷_, _++_}
+use mathlib.Core.List.{_∷_}
 use Prim.Native.Nat.{ℕ, _+_, _<_}
 use native.Mathlib.Omega.{arith}
-use lib.Dec.{eqb}
-use lib.ListN.{length, take, set}
+use lib.ListN.{length}
 use Rattle.std.proofs.shelf.Lists.{length-set}
 use Rattle.std.proofs.shelf.Tests.{eqb-true, eqb-false}
 use Rattle.std.proofs.shelf.Results.{err-from-errBy}
-use Rattle.site.specs.Site.{Place}
 use Rattle.text.specs.Rows.{leftOf}
 use Rattle.reader.specs.Listings.{NodesFault, NodesText}
 use Rattle.reader.proofs.LineLaws.{line-is}

@@ -1,5 +1,4 @@
-use mathlib.Core.Path.{refl}
-use Rattle.reader.proofs.LineLaws.{or-empty-some, or-empty-none}
+use Rattle.reader.proofs.LineLaws.{or-empty-some}
 use Rattle.reader.proofs.names.next_or_empty.Needs as need
 
 pub returns : need.returns

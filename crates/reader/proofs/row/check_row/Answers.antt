@@ -1,11 +1,10 @@
 use mathlib.Core.Path.{sym, subst}
-use mathlib.Core.List.{List, _∷_, []}
 use native.Mathlib.Omega.{arith}
-use Prim.Native.Nat.{ℕ, _+_}
-use lib.ListN.{length, drop, getD, take}
+use Prim.Native.Nat.{_+_}
+use lib.ListN.{drop, getD, take}
 use Rattle.text.specs.Cells.{cellsLeft, endOf}
 use Rattle.reader.specs.Wants.{Misfit, Fit}
-use Rattle.reader.specs.Rows.{FaultAt, RowFault}
+use Rattle.reader.specs.Rows.{RowFault}
 use Rattle.reader.proofs.RowLaws.{least-same, clean-same, same-then, at-name, at-end, lexer-rises, wrong-field, right-field, no-field, extra-field, all-read}
 use Rattle.reader.proofs.row.check_row.Needs as need
 

@@ -1,7 +1,6 @@
 -- What is left of the line has the faults of the line.
-use Prim.Native.Nat.{_+_}
-use lib.ListN.{drop, take, length}
-use Rattle.text.specs.Cells.{cells, cellsLeft, endOf}
+use lib.ListN.{drop, take}
+use Rattle.text.specs.Cells.{cellsLeft, endOf}
 use Rattle.reader.specs.Rows.{FaultAt, RowFault}
 use Rattle.reader.proofs.RowLaws.{Same}
 use Rattle.reader.proofs.row.check_row.Given as given
