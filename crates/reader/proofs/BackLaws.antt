@@ -32,7 +32,7 @@ use Rattle.reader.specs.Rows.{FaultAt, RowFault, Clean, named}
 use Rattle.reader.specs.Names.{codeNames, regularNames, nodeNames, callNames, InOrder}
 use Rattle.reader.specs.Codes.{CodeFault, CodeText, codeText}
 use Rattle.reader.specs.Listings.{NodesFault, nodeText, NodesText}
-use Rattle.reader.specs.Sites.{RegularFault, regularText, SiteFault, SiteText}
+use Rattle.reader.specs.Sites.{RegularFault, regularText, SitePartFault, SiteText}
 use Rattle.reader.specs.Calls.{callOf, formOf, callForm, actOf, RestText, callText}
 use Rattle.reader.specs.Backs.{Word, CodeWords, Places, SiteWords, Head-reads-back, One-code, One-site, AskedWords, Call-reads-back}
 use Rattle.reader.proofs.WantLaws.{no-such, letter-back}
@@ -110,7 +110,7 @@ one-code ls v w words others (is, o, a) (js, p, b) =
     })
 
 -- the site
-regular-back : (n : ℕ) (ls : List (List ℕ)) (racks each : ℕ) (table : List Place) → Word racks → Word each → getD ls 2 [] ≡ [] → SiteText ls (Regular racks each) table → Clean (SiteFault n ls)
+regular-back : (n : ℕ) (ls : List (List ℕ)) (racks each : ℕ) (table : List Place) → Word racks → Word each → getD ls 2 [] ≡ [] → SiteText ls (Regular racks each) table → Clean (SitePartFault n ls)
 regular-back n [] racks each table a b end (is, o, text) = absurd (none (o .all) (o .fields)) where
   none : length is ≡ 2 → [] ≡ map (λ i. getD regularNames i []) is → ⊥
   none l e = omega (arith, ap length e, length-of is) where
@@ -118,7 +118,7 @@ regular-back n [] racks each table a b end (is, o, text) = absurd (none (o .all)
     length-of [] = refl
     length-of (j ∷ js) = ap suc (length-of js)
 regular-back n (l ∷ ls) racks each table a b end (is, o, text) =
-    clean-same (RegularFault is (n + 1) ls) (SiteFault n (l ∷ ls)) (regular-same n l ls is o) (λ f. ⊎-elim (row f) (λ p. omega (arith, p .0, ap length end))) where
+    clean-same (RegularFault is (n + 1) ls) (SitePartFault n (l ∷ ls)) (regular-same n l ls is o) (λ f. ⊎-elim (row f) (λ p. omega (arith, p .0, ap length end))) where
       fits : (j : ℕ) → j < 2 → Fit (Number 4294967295) (regularText racks each j)
       fits zero h = number-fits 4294967295 racks a
       fits (suc zero) h = number-fits 4294967295 each b
@@ -143,7 +143,7 @@ nodes-clean names is o n count ((b ∷ bs) ∷ ls) (p ∷ ps) few racked text f 
     (nodes-clean names is o (n + 1) (count + 1) ls ps (omega arith) (racked .1) (text .1) f)
     h
 
-listing-back : (n : ℕ) (ls : List (List ℕ)) (nodes : ℕ) (table : List Place) → Places (take nodes table) → SiteText ls (Listed nodes) table → Clean (SiteFault n ls)
+listing-back : (n : ℕ) (ls : List (List ℕ)) (nodes : ℕ) (table : List Place) → Places (take nodes table) → SiteText ls (Listed nodes) table → Clean (SitePartFault n ls)
 listing-back n [] nodes table places (is, o, text) = absurd (none (o .all) (o .fields)) where
   none : length is ≡ 3 → [] ≡ map (λ i. getD nodeNames i []) is → ⊥
   none l e = omega (arith, ap length e, length-of is) where
@@ -151,9 +151,9 @@ listing-back n [] nodes table places (is, o, text) = absurd (none (o .all) (o .f
     length-of [] = refl
     length-of (j ∷ js) = ap suc (length-of js)
 listing-back n (l ∷ ls) nodes table places (is, o, text) =
-    clean-same (NodesFault is (n + 1) 0 ls) (SiteFault n (l ∷ ls)) (listed-same n l ls is o) (nodes-clean l is o (n + 1) 0 ls (take nodes table) (omega (arith, places .0)) (places .1) text)
+    clean-same (NodesFault is (n + 1) 0 ls) (SitePartFault n (l ∷ ls)) (listed-same n l ls is o) (nodes-clean l is o (n + 1) 0 ls (take nodes table) (omega (arith, places .0)) (places .1) text)
 
-site-back : (n : ℕ) (ls : List (List ℕ)) (s : SiteValues) (table : List Place) → SiteWords s ls table → SiteText ls s table → Clean (SiteFault n ls)
+site-back : (n : ℕ) (ls : List (List ℕ)) (s : SiteValues) (table : List Place) → SiteWords s ls table → SiteText ls s table → Clean (SitePartFault n ls)
 site-back n ls (Regular racks each) table words text = regular-back n ls racks each table (words .0) (words .1) (words .2) text
 site-back n ls (Listed nodes) table words text = listing-back n ls nodes table words text
 

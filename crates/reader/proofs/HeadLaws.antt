@@ -18,7 +18,7 @@ use Rattle.reader.specs.declared.form.Form.the-variants.{Numbers}
 use Rattle.reader.specs.Rows.{Clean}
 use Rattle.reader.specs.Codes.{CodeFault, CodeRead}
 use Rattle.reader.specs.Listings.{pastPart, pastNumber}
-use Rattle.reader.specs.Sites.{SiteFault, SiteRead, SiteText}
+use Rattle.reader.specs.Sites.{SitePartFault, SiteRead, SiteText}
 use Rattle.reader.specs.Heads.{LinesFault, HeadFault, HeadRead}
 use Rattle.reader.proofs.RowLaws.{Same, row-line, least-same, clean-same}
 use Rattle.reader.proofs.ListingLaws.{nodes-line}
@@ -29,7 +29,7 @@ code-lines n ls f =
     (⊎-elim (λ p. omega (arith, ap (λ x. x .place .line) (p .2)))
     (⊎-elim (λ p. omega (arith, row-line Numbers (p .0) (n + 1) (getD ls 1 []) f (p .2))) (λ p. omega (arith, ap (λ x. x .place .line) (p .1)))))
 
-site-lines : (n : ℕ) (ls : List (List ℕ)) (f : Fault) → SiteFault n ls f → n ≤ f .place .line
+site-lines : (n : ℕ) (ls : List (List ℕ)) (f : Fault) → SitePartFault n ls f → n ≤ f .place .line
 site-lines n [] f h = omega (arith, ap (λ x. x .place .line) h)
 site-lines n (l ∷ ls) f h =
     ⊎-elim (λ p. omega (arith, ap (λ x. x .place .line) (p .2)))
@@ -42,7 +42,7 @@ code-first ls f least = record {
   first = λ g. ⊎-elim (least .first g) (λ p. inl (omega (arith, code-lines 1 ls f (least .there), site-lines 4 (drop 3 ls) g (p .1))));
 }
 
-site-next : (ls : List (List ℕ)) → Clean (CodeFault 1 ls) → 3 ≤ length ls → Same (SiteFault 4 (drop 3 ls)) (LinesFault ls)
+site-next : (ls : List (List ℕ)) → Clean (CodeFault 1 ls) → 3 ≤ length ls → Same (SitePartFault 4 (drop 3 ls)) (LinesFault ls)
 site-next ls clean long f = ((λ h. inr (long, h)), ⊎-elim (λ p. absurd (clean f p)) (λ p. p .1))
 
 -- a sheet that is not too long
@@ -62,20 +62,20 @@ module _ (sheet : List ℕ) (short : length sheet ≤ 65536) where
     read : CodeRead 1 (linesOf sheet) code (leftOf mid) (mid .number)
     read = subst (λ P. P) (λ x. CodeRead (n x) ((e ∙ whole) x) code (leftOf mid) (mid .number)) r
 
-    site-same : Same (SiteFault (mid .number) (leftOf mid)) (HeadFault sheet)
+    site-same : Same (SitePartFault (mid .number) (leftOf mid)) (HeadFault sheet)
     site-same f =
         let s = site-next (linesOf sheet) (read .clean) (read .long) f in
         let h = lines-same f in
-        let to = subst (λ P. P) (λ x. SiteFault (read .next x) (read .after-it x) f) in
-        let from = subst (λ P. P) (λ x. SiteFault (sym (read .next) x) (sym (read .after-it) x) f) in
+        let to = subst (λ P. P) (λ x. SitePartFault (read .next x) (read .after-it x) f) in
+        let from = subst (λ P. P) (λ x. SitePartFault (sym (read .next) x) (sym (read .after-it) x) f) in
         ((λ p. h .0 (s .0 (to p))), λ p. from (s .1 (h .1 p)))
 
-    pub head-site-wrong : (f : Fault) → Least (SiteFault (mid .number) (leftOf mid)) f → Least (HeadFault sheet) f
-    head-site-wrong f least = least-same (SiteFault (mid .number) (leftOf mid)) (HeadFault sheet) f site-same least
+    pub head-site-wrong : (f : Fault) → Least (SitePartFault (mid .number) (leftOf mid)) f → Least (HeadFault sheet) f
+    head-site-wrong f least = least-same (SitePartFault (mid .number) (leftOf mid)) (HeadFault sheet) f site-same least
 
     pub head-read : (calls : Lines) (v : SiteValues) (was table : List Place) → SiteRead (mid .number) (leftOf mid) v was table (leftOf calls) (calls .number) → HeadRead sheet (record { code = code; site = v }) was table calls
     head-read calls v was table s = record {
-      clean = clean-same (SiteFault (mid .number) (leftOf mid)) (HeadFault sheet) site-same (s .clean);
+      clean = clean-same (SitePartFault (mid .number) (leftOf mid)) (HeadFault sheet) site-same (s .clean);
       code = read .text;
       site = subst (λ ls. SiteText ls v table) (read .after-it) (s .text);
       kept = s .kept;

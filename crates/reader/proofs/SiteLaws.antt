@@ -23,7 +23,7 @@ use Rattle.reader.specs.Wants.{Fit}
 use Rattle.reader.specs.Rows.{RowFault, Clean, named}
 use Rattle.reader.specs.Names.{regularNames, nodeNames, InOrder, OrEmpty}
 use Rattle.reader.specs.Listings.{NodesFault, NodesRead, pastPart, pastNumber}
-use Rattle.reader.specs.Sites.{RegularFault, RegularText, regularText, RegularRead, RegularEnd, SiteFault, SiteText, SiteRead}
+use Rattle.reader.specs.Sites.{RegularFault, RegularText, regularText, RegularRead, RegularEnd, SitePartFault, SiteText, SiteRead}
 use Rattle.reader.proofs.RowLaws.{Same, same-not-after, row-line, row-empty, least-same, clean-same}
 use Rattle.reader.proofs.LineLaws.{line-is, no-bytes}
 use Rattle.reader.proofs.FieldLaws.{row-fits, row-text}
@@ -94,13 +94,13 @@ pub two-or-three : (l is js : List ℕ) → InOrder regularNames l is → InOrde
 two-or-three l is js o p = omega (arith, order-fields regularNames l is o, order-fields nodeNames l js p)
 
 module _ (n : ℕ) (l : List ℕ) (ls : List (List ℕ)) where
-  pub regular-same : (is : List ℕ) → InOrder regularNames l is → Same (RegularFault is (n + 1) ls) (SiteFault n (l ∷ ls))
+  pub regular-same : (is : List ℕ) → InOrder regularNames l is → Same (RegularFault is (n + 1) ls) (SitePartFault n (l ∷ ls))
   regular-same is o f = (
     (λ h. inr (inl (is, o, h))),
     ⊎-elim (λ p. absurd (p .0 is o)) (⊎-elim (λ p. subst (λ js. RegularFault js (n + 1) ls f) (one-order regularNames l (p .0) is regular-apart (p .1) o) (p .2)) (λ p. absurd (two-or-three l is (p .0) o (p .1)))),
   )
 
-  pub listed-same : (is : List ℕ) → InOrder nodeNames l is → Same (NodesFault is (n + 1) 0 ls) (SiteFault n (l ∷ ls))
+  pub listed-same : (is : List ℕ) → InOrder nodeNames l is → Same (NodesFault is (n + 1) 0 ls) (SitePartFault n (l ∷ ls))
   listed-same is o f = (
     (λ h. inr (inr (is, o, h))),
     ⊎-elim (λ p. absurd (p .1 is o)) (⊎-elim (λ p. absurd (two-or-three l (p .0) is (p .1) o)) (λ p. subst (λ js. NodesFault js (n + 1) 0 ls f) (one-order nodeNames l (p .0) is node-apart (p .1) o) (p .2))),
@@ -118,39 +118,39 @@ module _ (ls : List (List ℕ)) (n : ℕ) (names : Line) (mid : List (List ℕ))
   next-at : m ≡ n + 1
   next-at = line-is ls n names mid m t .2
 
-  regular-faults : (is : List ℕ) → InOrder regularNames (names .bytes .now) is → Same (RegularFault is m mid) (SiteFault n ls)
-  regular-faults is o = subst (λ l. Same (RegularFault is m mid) (SiteFault n l)) (sym lines-are) (subst (λ k. Same (RegularFault is k mid) (SiteFault n (names .bytes .now ∷ mid))) (sym next-at) (regular-same n (names .bytes .now) mid is o))
+  regular-faults : (is : List ℕ) → InOrder regularNames (names .bytes .now) is → Same (RegularFault is m mid) (SitePartFault n ls)
+  regular-faults is o = subst (λ l. Same (RegularFault is m mid) (SitePartFault n l)) (sym lines-are) (subst (λ k. Same (RegularFault is k mid) (SitePartFault n (names .bytes .now ∷ mid))) (sym next-at) (regular-same n (names .bytes .now) mid is o))
 
-  listed-faults : (is : List ℕ) → InOrder nodeNames (names .bytes .now) is → Same (NodesFault is m 0 mid) (SiteFault n ls)
-  listed-faults is o = subst (λ l. Same (NodesFault is m 0 mid) (SiteFault n l)) (sym lines-are) (subst (λ k. Same (NodesFault is k 0 mid) (SiteFault n (names .bytes .now ∷ mid))) (sym next-at) (listed-same n (names .bytes .now) mid is o))
+  listed-faults : (is : List ℕ) → InOrder nodeNames (names .bytes .now) is → Same (NodesFault is m 0 mid) (SitePartFault n ls)
+  listed-faults is o = subst (λ l. Same (NodesFault is m 0 mid) (SitePartFault n l)) (sym lines-are) (subst (λ k. Same (NodesFault is k 0 mid) (SitePartFault n (names .bytes .now ∷ mid))) (sym next-at) (listed-same n (names .bytes .now) mid is o))
 
   past-is : 0 < length (names .bytes .now) → (pastPart mid ≡ pastPart ls) × (pastNumber m mid ≡ pastNumber n ls)
   past-is h =
       let e = past-names n (names .bytes .now) mid h in
       (e .0 ∙ ap pastPart (sym lines-are), ap (λ k. pastNumber k mid) next-at ∙ e .1 ∙ ap (pastNumber n) (sym lines-are))
 
-  pub site-regular-wrong : (is : List ℕ) → InOrder regularNames (names .bytes .now) is → (f : Fault) → Least (RegularFault is m mid) f → Least (SiteFault n ls) f
-  site-regular-wrong is o f least = least-same (RegularFault is m mid) (SiteFault n ls) f (regular-faults is o) least
+  pub site-regular-wrong : (is : List ℕ) → InOrder regularNames (names .bytes .now) is → (f : Fault) → Least (RegularFault is m mid) f → Least (SitePartFault n ls) f
+  site-regular-wrong is o f least = least-same (RegularFault is m mid) (SitePartFault n ls) f (regular-faults is o) least
 
   pub site-regular : (is : List ℕ) → InOrder regularNames (names .bytes .now) is → (racks each : ℕ) (after : List (List ℕ)) (k : ℕ) (table : List Place) → RegularRead is m mid racks each after k → SiteRead n ls (Regular racks each) table table after k
   site-regular is o racks each after k table r =
       let p = past-is (order-some regularNames (names .bytes .now) is (omega arith) o) in
       record {
-        clean = clean-same (RegularFault is m mid) (SiteFault n ls) (regular-faults is o) (r .clean);
+        clean = clean-same (RegularFault is m mid) (SitePartFault n ls) (regular-faults is o) (r .clean);
         text = subst (λ l. SiteText l (Regular racks each) table) (sym lines-are) (is, o, r .text);
         kept = refl;
         after-it = r .after-it ∙ p .0;
         next = r .next ∙ p .1;
       }
 
-  pub site-listed-wrong : (is : List ℕ) → InOrder nodeNames (names .bytes .now) is → (f : Fault) → Least (NodesFault is m 0 mid) f → Least (SiteFault n ls) f
-  site-listed-wrong is o f least = least-same (NodesFault is m 0 mid) (SiteFault n ls) f (listed-faults is o) least
+  pub site-listed-wrong : (is : List ℕ) → InOrder nodeNames (names .bytes .now) is → (f : Fault) → Least (NodesFault is m 0 mid) f → Least (SitePartFault n ls) f
+  site-listed-wrong is o f least = least-same (NodesFault is m 0 mid) (SitePartFault n ls) f (listed-faults is o) least
 
   pub site-listed : (is : List ℕ) → InOrder nodeNames (names .bytes .now) is → (nodes : ℕ) (after : List (List ℕ)) (k : ℕ) (was table : List Place) → NodesRead is m mid nodes was table after k → SiteRead n ls (Listed nodes) was table after k
   site-listed is o nodes after k was table r =
       let p = past-is (order-some nodeNames (names .bytes .now) is (omega arith) o) in
       record {
-        clean = clean-same (NodesFault is m 0 mid) (SiteFault n ls) (listed-faults is o) (r .clean);
+        clean = clean-same (NodesFault is m 0 mid) (SitePartFault n ls) (listed-faults is o) (r .clean);
         text = subst (λ l. SiteText l (Listed nodes) table) (sym lines-are) (is, o, r .text);
         kept = (r .few, r .back, listed-whole nodes table (r .few) (r .racked));
         after-it = r .after-it ∙ p .0;

@@ -15,11 +15,11 @@ use Rattle.reader.specs.declared.head.Head.{Head}
 use Rattle.reader.specs.Rows.{Clean}
 use Rattle.reader.specs.Codes.{CodeFault, CodeText}
 use Rattle.reader.specs.Listings.{pastPart, pastNumber}
-use Rattle.reader.specs.Sites.{SiteFault, SiteText, Kept}
+use Rattle.reader.specs.Sites.{SitePartFault, SiteText, Kept}
 
 -- a fault of the code part, in lines 1 to 3, or of the site part from line 4 on
 abbrev pub LinesFault : List (List ℕ) → Fault → Type 0
-LinesFault ls f = CodeFault 1 ls f ⊎ ((3 ≤ length ls) × SiteFault 4 (drop 3 ls) f)
+LinesFault ls f = CodeFault 1 ls f ⊎ ((3 ≤ length ls) × SitePartFault 4 (drop 3 ls) f)
 
 -- a fault of a sheet's code and site: one that is too long has no other
 abbrev pub HeadFault : List ℕ → Fault → Type 0

@@ -25,9 +25,9 @@ abbrev pub RegularFault : List ℕ → ℕ → List (List ℕ) → Fault → Typ
 RegularFault is n ls f = RowFault Numbers is n (getD ls 0 []) f ⊎ ((0 < length (getD ls 1 [])) × (f ≡ at Count (n + 1) 1))
 
 -- a fault of the site part, whose names line has number n and is the first of these lines
-abbrev pub SiteFault : ℕ → List (List ℕ) → Fault → Type 0
-SiteFault n [] f = f ≡ at Sheet n 1
-SiteFault n (l ∷ ls) f =
+abbrev pub SitePartFault : ℕ → List (List ℕ) → Fault → Type 0
+SitePartFault n [] f = f ≡ at Sheet n 1
+SitePartFault n (l ∷ ls) f =
     (NoOrder regularNames l × NoOrder nodeNames l × (f ≡ at Names n 1))
     ⊎ (((is : List ℕ) × InOrder regularNames l is × RegularFault is (n + 1) ls f)
     ⊎ ((is : List ℕ) × InOrder nodeNames l is × NodesFault is (n + 1) 0 ls f))
@@ -58,7 +58,7 @@ pub record RegularRead (is : List ℕ) (n : ℕ) (ls : List (List ℕ)) (racks e
 
 -- a site part without fault, and what follows it
 pub record SiteRead (n : ℕ) (ls : List (List ℕ)) (v : SiteValues) (was table : List Place) (after : List (List ℕ)) (m : ℕ) : Type 0 where
-  pub clean : Clean (SiteFault n ls)
+  pub clean : Clean (SitePartFault n ls)
   pub text : SiteText ls v table
   pub kept : Kept v was table
   pub after-it : after ≡ pastPart ls

@@ -5,7 +5,7 @@ ghost use Rattle.std.specs.Results.{Cases};
 ghost use Rattle.text.specs.Faults.{Least};
 ghost use Rattle.text.specs.Rows.{leftOf};
 ghost use Rattle.reader.specs.Names.{InOrder, regularNames};
-ghost use Rattle.reader.specs.Sites.{RegularFault, RegularRead, RegularEnd, SiteFault, SiteRead};
+ghost use Rattle.reader.specs.Sites.{RegularFault, RegularRead, RegularEnd, SitePartFault, SiteRead};
 use crate::form::Form;
 use crate::listing::TABLE;
 use crate::listing::read_nodes;
@@ -60,7 +60,7 @@ pub(crate) fn read_site(
     lines: &mut Lines,
     table: &mut [(Rack, Mark); TABLE],
 ) -> Result<SiteValues, Fault>
-    ensures { λ r. ⌜ Cases r (λ v. SiteRead (now (lines .entry) .number) (leftOf (now (lines .entry))) v (now (table .entry)) (now (table .exit)) (leftOf (now (lines .exit))) (now (lines .exit) .number)) (Least (SiteFault (now (lines .entry) .number) (leftOf (now (lines .entry))))) ⌝ }
+    ensures { λ r. ⌜ Cases r (λ v. SiteRead (now (lines .entry) .number) (leftOf (now (lines .entry))) v (now (table .entry)) (now (table .exit)) (leftOf (now (lines .exit))) (now (lines .exit) .number)) (Least (SitePartFault (now (lines .entry) .number) (leftOf (now (lines .entry))))) ⌝ }
 {
     let number = lines.number();
     let Some(names) = lines.next_line() else {
