@@ -24,8 +24,8 @@ glued-pieces sep [] = refl
 glued-pieces sep (b ∷ bs) =
     let i = glued-pieces sep bs in
     elim (eqb b sep) as (λ t. eqb b sep ≡ t → glued sep (cond t ([] ∷ pieces sep bs) (onto b (pieces sep bs))) ≡ b ∷ bs) [
-      true ↦ λ t. glued-none sep bs ∙ (λ k. sym (eqb-true b sep t) k ∷ i k)
-    | false ↦ λ t. glued-onto sep b (pieces sep bs) ∙ ap (λ l. b ∷ l) i
+      | true ↦ λ t. glued-none sep bs ∙ (λ k. sym (eqb-true b sep t) k ∷ i k)
+      | false ↦ λ t. glued-onto sep b (pieces sep bs) ∙ ap (λ l. b ∷ l) i
     ] refl
 
 pub glued-parted : (sep : ℕ) (bs : List ℕ) → glued sep (parted sep bs) ≡ bs

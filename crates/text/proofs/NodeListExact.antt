@@ -52,8 +52,8 @@ never x e = let z : _≡_ {A = ℕ} 0 1 = cc in omega arith
 number-some : (bs : List ℕ) (v : ℕ) → numberIn 65535 bs ≡ Some v → (v ≤ 65535) × (bs ≡ decimal v)
 number-some bs v e =
     elim (isNumber 65535 bs) as (λ t. isNumber 65535 bs ≡ t → cond t (Some (value 10 bs)) None ≡ Some v → (v ≤ 65535) × (bs ≡ decimal v)) [
-      true ↦ λ t e. subst (λ u. (u ≤ 65535) × (bs ≡ decimal u)) (same-some (value 10 bs) v e) (number-is 65535 bs (omega arith) t)
-    | false ↦ λ t e. absurd (never v (sym e))
+      | true ↦ λ t e. subst (λ u. (u ≤ 65535) × (bs ≡ decimal u)) (same-some (value 10 bs) v e) (number-is 65535 bs (omega arith) t)
+      | false ↦ λ t e. absurd (never v (sym e))
     ] refl e
 
 words-are : (ws : List (List ℕ)) (vs : List ℕ) → numbersIn 65535 ws ≡ Some vs → All (λ v. v ≤ 65535) vs × (ws ≡ map decimal vs)

@@ -27,18 +27,21 @@ indexed : (k : ℕ) (text : List ℕ) (ns : List (List ℕ)) → Indexed k text 
 indexed k text [] = inr (refl, λ i h. absurd (omega arith))
 indexed k text (n ∷ ns) =
     elim (sameBytes text n) as (λ b. sameBytes text n ≡ b → Indexed k text (n ∷ ns) (cond b (Some k) (indexFrom (k + 1) text ns))) [
-      true ↦ λ t. inl (0, ap Some (here k), omega arith, sym (sameBytes-decides text n .0 t))
-    | false ↦ λ t. further (indexFrom (k + 1) text ns) t (indexed (k + 1) text ns)
+      | true ↦ λ t. inl (0, ap Some (here k), omega arith, sym (sameBytes-decides text n .0 t))
+      | false ↦ λ t. further (indexFrom (k + 1) text ns) t (indexed (k + 1) text ns)
     ] refl where
-  here : (k : ℕ) → k ≡ k + 0
-  here k = omega arith
-  neither : sameBytes text n ≡ false → ((i : ℕ) → i < length ns → getD ns i [] ≡ text → ⊥) → (i : ℕ) → i < length (n ∷ ns) → getD (n ∷ ns) i [] ≡ text → ⊥
-  neither t none zero h e = not-from-decides _ (sameBytes-decides text n) t (sym e)
-  neither t none (suc i) h e = none i (omega arith) e
-  next : (k j : ℕ) → k + 1 + j ≡ k + suc j
-  next k j = omega arith
-  further : (r : Option ℕ) → sameBytes text n ≡ false → Indexed (k + 1) text ns r → Indexed k text (n ∷ ns) r
-  further r t h = ⊎-elim (λ p. inl (suc (p .0), p .1 ∙ ap Some (next k (p .0)), omega (arith, p .2), p .3)) (λ p. inr (p .0, neither t (p .1))) h
+      here : (k : ℕ) → k ≡ k + 0
+      here k = omega arith
+
+      neither : sameBytes text n ≡ false → ((i : ℕ) → i < length ns → getD ns i [] ≡ text → ⊥) → (i : ℕ) → i < length (n ∷ ns) → getD (n ∷ ns) i [] ≡ text → ⊥
+      neither t none zero h e = not-from-decides _ (sameBytes-decides text n) t (sym e)
+      neither t none (suc i) h e = none i (omega arith) e
+
+      next : (k j : ℕ) → k + 1 + j ≡ k + suc j
+      next k j = omega arith
+
+      further : (r : Option ℕ) → sameBytes text n ≡ false → Indexed (k + 1) text ns r → Indexed k text (n ∷ ns) r
+      further r t h = ⊎-elim (λ p. inl (suc (p .0), p .1 ∙ ap Some (next k (p .0)), omega (arith, p .2), p .3)) (λ p. inr (p .0, neither t (p .1))) h
 
 same-some : {A : Type 0} (x y : A) → Some x ≡ Some y → x ≡ y
 same-some x y e = cc
@@ -53,8 +56,8 @@ index-of text ns i e =
     (λ p. let is : i ≡ p .0 = same-some _ _ (sym e ∙ p .1) ∙ zeroth (p .0) in (omega (arith, is, p .2), sym (p .3) ∙ ap (λ j. getD ns j []) (sym is)))
     (λ p. absurd (never i (sym e ∙ p .0)))
     (indexed 0 text ns) where
-  zeroth : (j : ℕ) → 0 + j ≡ j
-  zeroth j = omega arith
+      zeroth : (j : ℕ) → 0 + j ≡ j
+      zeroth j = omega arith
 
 Named : List (List ℕ) → List (List ℕ) → List ℕ → Type 0
 Named ns fs is = All (λ i. i < length ns) is × (fs ≡ map (λ i. getD ns i []) is)
@@ -93,11 +96,11 @@ order-is n ns fs is e = from (indices ns fs) refl e where
   from None q e = absurd (never is (sym e))
   from (Some us) q e =
       elim (eqb (length us) n && distinct us) as (λ b. (eqb (length us) n && distinct us) ≡ b → cond b (Some us) None ≡ Some is → Order n ns fs is) [
-        true ↦ λ t e.
+        | true ↦ λ t e.
             (let p = and-parts _ _ t in
             let m = named ns fs us q in
             subst (Order n ns fs) (same-some us is e) (record { all = eqb-true _ n (p .0); once = p .1; names = m .0; fields = m .1 }))
-      | false ↦ λ t e. absurd (never is (sym e))
+        | false ↦ λ t e. absurd (never is (sym e))
       ] refl e
 
 pub ordered : (n : ℕ) (ns fs : List (List ℕ)) (r : Option (List ℕ)) → r ≡ orderOf n ns fs → Ordered n ns fs r

@@ -4,8 +4,8 @@ ghost use mathlib.Core.Path.{_≡_};
 ghost use Prim.Native.Nat.{_+_};
 ghost use lib.ListN.{length, take};
 ghost use Rattle.text.specs.Cells.{cells, cellsLeft, endOf, NextToken};
-use crate::place::Place;
 use crate::lines::Line;
+use crate::place::Place;
 use crate::split::front;
 use crate::split::split_first;
 use crate::split::unless_empty;
@@ -19,8 +19,14 @@ impl<'a> Lexer<'a> {
         ensures line { λ r. ⌜ r .place .line ≡ line .entry .number ⌝ }
         ensures end { λ r. ⌜ endOf r ≡ 1 + length (take 65536 (now (line .entry .bytes))) ⌝ }
     {
-        let place = Place { line: line.number, column: 1 };
-        Lexer { left: unless_empty(front(line.bytes)), place }
+        let place = Place {
+            line: line.number,
+            column: 1,
+        };
+        Lexer {
+            left: unless_empty(front(line.bytes)),
+            place,
+        }
     }
 
     /// The next token: a field, or once there is none the line's end.
@@ -34,10 +40,22 @@ impl<'a> Lexer<'a> {
         let (bytes, more) = split_first(left, b',');
         let end = place.column + bytes.len() as u32;
         if more.is_none() {
-            *self = Lexer { left: None, place: Place { line: place.line, column: end } };
+            *self = Lexer {
+                left: None,
+                place: Place {
+                    line: place.line,
+                    column: end,
+                },
+            };
             return Token::Field { bytes, place };
         }
-        *self = Lexer { left: more, place: Place { line: place.line, column: end + 1 } };
+        *self = Lexer {
+            left: more,
+            place: Place {
+                line: place.line,
+                column: end + 1,
+            },
+        };
         Token::Field { bytes, place }
     }
 }

@@ -9,6 +9,8 @@ pub mod number;
 pub mod place;
 pub mod reader;
 pub mod split;
+#[cfg(test)]
+mod tests;
 pub mod token;
 pub mod writer;
 pub mod writing;

@@ -42,7 +42,10 @@ pub fn node_list(bytes: &[u8]) -> Option<NodeList>
     ensures value { λ r. ⌜ r ≡ kept (nodeList (now (bytes .entry))) ⌝ }
     ensures exact { λ _. ⌜ Listed (now (bytes .entry)) (nodeList (now (bytes .entry))) ⌝ }
 {
-    let mut list = NodeList { nodes: [0; KEPT], len: 0 };
+    let mut list = NodeList {
+        nodes: [0; KEPT],
+        len: 0,
+    };
     let mut left = unless_empty(bytes);
     while let Some(text) = left {
         let (word, more) = split_first(text, b' ');

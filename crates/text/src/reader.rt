@@ -16,7 +16,10 @@ impl<'a> Lines<'a> {
         ensures left { λ r. ⌜ leftOf r ≡ linesOf (take 65536 (now (sheet .entry))) ⌝ }
         ensures number { λ r. ⌜ r .number ≡ 1 ⌝ }
     {
-        Lines { left: front(sheet), number: 1 }
+        Lines {
+            left: front(sheet),
+            number: 1,
+        }
     }
 
     /// The next line, if there is one.
@@ -24,20 +27,15 @@ impl<'a> Lines<'a> {
         ensures next { λ r. ⌜ NextLine (leftOf (now (self .entry))) (now (self .entry) .number) r (leftOf (now (self .exit))) (now (self .exit) .number) ⌝ }
         ensures short { λ r. ⌜ Short r ⌝ }
     {
-        let number = self.number;
-        let left = self.left;
+        let Lines { left, number } = *self;
         if left.is_empty() {
             return None;
         }
         let (bytes, more) = split_first(left, b'\n');
-        *self = Lines { left: more.unwrap_or(b""), number: number + 1 };
+        *self = Lines {
+            left: more.unwrap_or(b""),
+            number: number + 1,
+        };
         Some(Line { bytes, number })
-    }
-
-    /// The number of the line that comes next, or that would.
-    pub fn number(&self) -> u32
-        ensures { λ r. ⌜ r ≡ now (self .entry) .number ⌝ }
-    {
-        self.number
     }
 }

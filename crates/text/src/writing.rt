@@ -1,30 +1,13 @@
 // Writing bytes and numbers one after the other. A buffer that is too short for its text has the text's front.
 ghost use mathlib.Core.Path.{_≡_};
 ghost use mathlib.Core.List.{[], _∷_};
-ghost use lib.ListN.{length};
-ghost use denote.Ref.{name};
 ghost use Rattle.std.specs.Joined.{joined};
 ghost use Rattle.std.specs.Written.{decimal};
 ghost use Rattle.text.specs.Spaced.{spaced};
-ghost use Rattle.text.specs.Texts.{Wrote, written};
+ghost use Rattle.text.specs.Texts.{Wrote};
 use crate::writer::Writer;
 
 impl<'a> Writer<'a> {
-    pub fn new(buffer: &'a mut [u8]) -> Writer<'a>
-        ensures at { λ r. ⌜ r .at ≡ 0 ⌝ }
-        ensures buffer { λ r. ⌜ now (r .buffer) ≡ now (buffer .entry) ⌝ }
-        ensures lent { λ r. ⌜ name (r .buffer) ≡ name (buffer .entry) ⌝ }
-    {
-        Writer { buffer, at: 0 }
-    }
-
-    /// How many bytes are written.
-    pub fn len(&self) -> usize
-        ensures { λ r. ⌜ r ≡ length (written (now (self .entry))) ⌝ }
-    {
-        self.at
-    }
-
     pub fn put(&mut self, b: u8)
         ensures { λ _. ⌜ Wrote (now (self .entry)) (now (self .exit)) (b ∷ []) ⌝ }
     {

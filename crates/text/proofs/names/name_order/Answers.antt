@@ -51,13 +51,12 @@ loop-i-again g c =
     let index = c .in-Some-index-of .index in
     let is = ap (rest 44) (c .in-Some .is) ∙ c .split-first .ensures .pieces in
     let new = c .if-holds .ensures tt ∙ ap (λ k. elem index (take k order)) (no-less i) in
-    let one = take-more-set order i index (omega (arith, c .loop-i .inv .0)) in
-    (
+    let one = take-more-set order i index (omega (arith, c .loop-i .inv .0)) in (
       length-set order i index ∙ c .loop-i .inv .0,
       ap distinct one ∙ distinct-more index (take i order) (c .loop-i .inv .1) (sym new),
       ap (λ ts. complete (g .N) (after ts (indices ns (rest 44 (c .split-first .result .1))))) one
-      ∙ sym (next-name (g .N) (take i order) ns _ _ _ is index (c .in-Some-index-of .ensures tt))
-      ∙ c .loop-i .inv .2,
+          ∙ sym (next-name (g .N) (take i order) ns _ _ _ is index (c .in-Some-index-of .ensures tt))
+          ∙ c .loop-i .inv .2,
     )
 
 pub returns-then-is-some : need.returns-then-is-some

@@ -3,7 +3,6 @@ use mathlib.Core.List.{[], _∷_, _++_}
 use native.Mathlib.Omega.{arith}
 use Prim.Native.Nat.{_<_}
 use lib.ListN.{length}
-use Rattle.std.specs.declared.option.Option.the-variants.{None}
 use Rattle.std.proofs.shelf.Lists.{length-push}
 use Rattle.text.specs.NodeLists.{kept, numbersIn}
 use Rattle.text.specs.Pieces.{rest, lengthOf}
@@ -33,8 +32,7 @@ loop-left-again c =
     let number = c .in-Some-number .ensures tt .exact in
     let some : 0 < length word = not-empty word node (omega (arith, number .0)) (number .1) in
     let fewer = length-falls (c .in-Some .text .now) word more (c .split-first .ensures .shorter) in
-    let longer = length-push vs node in
-    (
+    let longer = length-push vs node in (
       vs ++ node ∷ [],
       c .keep .ensures .nodes vs (i .1) (i .2),
       omega (arith, c .keep .ensures .len, i .2, longer),

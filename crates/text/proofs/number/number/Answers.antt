@@ -29,24 +29,25 @@ returns-then-bytes-gt1 c =
 pub returns-then-b-lt48 : need.returns-then-b-lt48
 returns-then-b-lt48 c =
     let e : Numbered (c .args .limit) (c .args .bytes .now) None =
-        λ v h e.
-            let d = all-digits _ v (omega arith) e (c .loop-b .b-index) (omega arith) in
-            elim (c .then-b-lt48 .came) [ then-b-lt48·by·then-b-lt48 w ↦ omega (arith, d, w .if-b-lt48 .taken) | then-b-lt48·by·else-b-lt48·then-b-gt57 w ↦ omega (arith, d, w .if-b-gt57 .taken) ] in
+    λ v h e.
+    let d = all-digits _ v (omega arith) e (c .loop-b .b-index) (omega arith) in
+    elim (c .then-b-lt48 .came) [ then-b-lt48·by·then-b-lt48 w ↦ omega (arith, d, w .if-b-lt48 .taken) | then-b-lt48·by·else-b-lt48·then-b-gt57 w ↦ omega (arith, d, w .if-b-gt57 .taken) ] in
     record { value = exact-is (c .args .limit) (c .args .bytes .now) None (omega arith) e; exact = e }
 
 pub returns-then-next-limit : need.returns-then-next-limit
 returns-then-next-limit c =
     let e : Numbered (c .args .limit) (c .args .bytes .now) None =
-        λ v h e.
-            omega (arith, front-le _ v (omega arith) e (c .loop-b .b-index + 1), value-more 10 (c .args .bytes .now) (c .loop-b .b-index) (omega arith), digit-is (getD (c .args .bytes .now) (c .loop-b .b-index) 0) (omega arith) (omega arith), c .loop-b .inv .1) in
+    λ v h e.
+    omega (arith, front-le _ v (omega arith) e (c .loop-b .b-index + 1), value-more 10 (c .args .bytes .now) (c .loop-b .b-index) (omega arith), digit-is (getD (c .args .bytes .now) (c .loop-b .b-index) 0) (omega arith) (omega arith), c .loop-b .inv .1) in
     record { value = exact-is (c .args .limit) (c .args .bytes .now) None (omega arith) e; exact = e }
 
 pub loop-b-again : need.loop-b-again
 loop-b-again c =
-    let is = digit-is (getD (c .args .bytes .now) (c .loop-b .b-index) 0) (omega arith) (omega arith) in
-    (digits-more 10 (c .args .bytes .now) (c .loop-b .b-index) (omega arith) (c .loop-b .inv .0) (omega (arith, is)),
-     omega (arith, value-more 10 (c .args .bytes .now) (c .loop-b .b-index) (omega arith), is, c .loop-b .inv .1),
-     omega arith)
+    let is = digit-is (getD (c .args .bytes .now) (c .loop-b .b-index) 0) (omega arith) (omega arith) in (
+      digits-more 10 (c .args .bytes .now) (c .loop-b .b-index) (omega arith) (c .loop-b .inv .0) (omega (arith, is)),
+      omega (arith, value-more 10 (c .args .bytes .now) (c .loop-b .b-index) (omega arith), is, c .loop-b .inv .1),
+      omega arith,
+    )
 
 pub returns : need.returns
 returns c =
