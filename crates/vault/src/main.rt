@@ -1,4 +1,5 @@
 // The program: a sheet on standard input, its answer lines on standard output.
+use console::print_answers;
 use std::io;
 use std::io::Read;
 
@@ -8,5 +9,5 @@ const MOST: u64 = 65_537;
 fn main(rt: LibcRuntime) -> io::Result<()> {
     let mut sheet = Vec::new(rt.alloc());
     rt.stdin().take(MOST).read_to_end(&mut sheet)?;
-    println!(rt, "answer,first,rest")
+    print_answers(&rt, &sheet)
 }

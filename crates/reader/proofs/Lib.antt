@@ -1,0 +1,13 @@
+pub mod WantLaws
+pub mod RowLaws
+pub mod FieldLaws
+pub mod NameLaws
+pub mod PickLaws
+pub mod LineLaws
+pub mod CodeLaws
+pub mod ListingLaws
+pub mod SiteLaws
+pub mod HeadLaws
+pub mod CallLaws
+pub mod BackLaws
+pub mod OneCallLaws

@@ -1,0 +1,12 @@
+pub mod Letters
+pub mod Wants
+pub mod Rows
+pub mod Names
+pub mod Codes
+pub mod Listings
+pub mod Sites
+pub mod Heads
+pub mod Calls
+pub mod SiteMaps
+pub mod Openings
+pub mod Backs

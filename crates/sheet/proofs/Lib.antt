@@ -1,0 +1,11 @@
+pub mod Counts
+pub mod Texts
+pub mod Crowds
+pub mod Answering
+pub mod Lines
+pub mod LeastFaults
+pub mod Cuts
+pub mod Goings
+pub mod Turns
+pub mod Begins
+pub mod Wholes
