@@ -11,3 +11,4 @@ pub mod Keeps
 pub mod History
 pub mod Same
 pub mod Running
+pub mod Alike

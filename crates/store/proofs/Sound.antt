@@ -97,26 +97,29 @@ module _ (s : Site) where
   choice-of o (filling bs) h e = h .1 .choice e
   choice-of o (sealed bs p) h e = h .1 .choice e
 
+  -- a list that passes the checks of an offer
+  pub formed-by : (vs : Copies) → (ltb (length vs) 2 || ltb 8 (length vs)) ≡ false → not (every (onMap s) vs) ≡ false → not (apart vs) ≡ false
+      → not (every (λ v. not (eqb (rackOf s v) (core s vs))) (rest vs)) ≡ false → WellFormed s vs
+  formed-by vs a3 a4 a5 a6 =
+      let size = or-parts (ltb (length vs) 2) (ltb 8 (length vs)) a3 in
+      record {
+        enough = ltb-false (length vs) 2 (size .0);
+        few = ltb-false 8 (length vs) (size .1);
+        present = every-all (onMap s) (λ v. v < length s) vs (λ v t. ltb-true v (length s) t) (not-false _ a4);
+        differ = not-false _ a5;
+        away = every-all (λ v. not (eqb (rackOf s v) (core s vs))) (λ v. rackOf s v ≡ core s vs → ⊥) (rest vs) (λ v t. eqb-false (rackOf s v) (core s vs) (not-true _ t)) (not-false _ a6);
+      }
+
   -- what an offer that is not refused has been checked for
   offer-formed : (o : Code) (l : Ledger) (b : ℕ) (vs : Copies) → first (checks s o l (offer b vs)) ≡ None
       → WellFormed s vs × (length (blocksOf (stripe l (core s vs))) < o .k) × (choices s (o .c) (copiesOf (blocksOf (stripe l (core s vs))) ++ (vs ∷ [])) ≡ [] → ⊥)
   offer-formed o l b vs e =
-      let own = blocksOf (stripe l (core s vs)) in
       let a3 = unmet (checks s o l (offer b vs)) e in
       let a4 = a3 .1 in
       let a5 = a4 .1 in
       let a6 = a5 .1 in
-      let a22 = a6 .1 in
-      let a23 = a22 .1 in
-      let a24 = a23 .1 in
-      let size = or-parts (ltb (length vs) 2) (ltb 8 (length vs)) (a3 .0) in
-      (record {
-         enough = ltb-false (length vs) 2 (size .0);
-         few = ltb-false 8 (length vs) (size .1);
-         present = every-all (onMap s) (λ v. v < length s) vs (λ v t. ltb-true v (length s) t) (not-false _ (a4 .0));
-         differ = not-false _ (a5 .0);
-         away = every-all (λ v. not (eqb (rackOf s v) (core s vs))) (λ v. rackOf s v ≡ core s vs → ⊥) (rest vs) (λ v t. eqb-false (rackOf s v) (core s vs) (not-true _ t)) (not-false _ (a6 .0));
-       }, leb-false (o .k) (length own) (a23 .0), some-first _ (a24 .0))
+      let a23 = a6 .1 .1 in
+      (formed-by vs (a3 .0) (a4 .0) (a5 .0) (a6 .0), leb-false (o .k) (length (blocksOf (stripe l (core s vs)))) (a23 .0), some-first _ (a23 .1 .0))
 
   -- one record is another
   put-sound : (o : Code) (l : Ledger) (r : ℕ) (x : Stripe) → l .code ≡ Some o → length (l .stripes) ≡ 32 → CodeSound s o → All (StripeSound s o) (l .stripes) → StripeSound s o x → Sound s (put l r x)
