@@ -6,8 +6,9 @@ use mathlib.Core.Logic.{⊎-elim}
 use Prim.Native.Nat.{ℕ, _<_, _≤_}
 use native.Mathlib.Omega.{arith}
 use lib.Dec.{eqb, leb, ltb}
-use lib.ListN.{length, take}
+use lib.ListN.{length, take, getD}
 use Rattle.std.specs.shelf.Maps.{nth}
+use Rattle.std.proofs.shelf.Maps.{nth-getD}
 use Rattle.std.proofs.shelf.Tests.{cases-eq, eq-eqb, or-parts, leb-false, true≢false, false≢true}
 use Rattle.std.specs.declared.option.Option.{Option}
 use Rattle.std.specs.declared.option.Option.the-variants.{Some, None}
@@ -26,7 +27,7 @@ use Rattle.store.specs.Refusals.{none, first, checks, fresh, refusedBy, number
 use Rattle.store.specs.Ledger.{ledger}
 use Rattle.store.specs.Answers.{Answered}
 use Rattle.store.specs.Promise.{Due, Kept, together}
-use Rattle.store.specs.Runs.{AnsweredAfter, AllAnswered}
+use Rattle.store.specs.Runs.{AnsweredAfter, AllAnswered, Alike}
 use Rattle.store.proofs.Tells.{coded, uncoded}
 use Rattle.store.proofs.Sound.{Unmet, formed-by}
 use Rattle.store.proofs.Keeps.{accepts, refuses, only-word}
@@ -196,3 +197,9 @@ answers-alike s room calls xs ys f g i q x y e m n =
     let u = f i q x e m in
     let v = g i q y e n in
     one-answer s (ledger s (take i calls)) q x y (u .0) (u .1) (v .0) (v .1) (u .3) (v .3) (u .4) (v .4)
+
+-- of two runs over sites that are the same
+pub runs-alike : (s t : Site) (room : ℕ) (calls : List Call) (xs ys : List (Result Answer Refusal)) → s ≡ t → AllAnswered s room calls xs → AllAnswered t room calls ys → Alike (length calls) xs ys
+runs-alike s t room calls xs ys e f g i x y h m n =
+    let d : Call = release 0 in
+    answers-alike s room calls xs ys f (subst (λ z. AllAnswered z room calls ys) (sym e) g) i (getD calls i d) x y (nth-getD calls i d h) m n

@@ -1,7 +1,7 @@
 -- Whole runs: a list of calls sent to a new store, one after the other.
 use mathlib.Core.Path.{_≡_}
 use mathlib.Core.List.{List, [], _∷_, map}
-use Prim.Native.Nat.{ℕ}
+use Prim.Native.Nat.{ℕ, _<_}
 use lib.ListN.{length, take}
 use Rattle.std.specs.shelf.Maps.{nth}
 use Rattle.std.specs.declared.option.Option.the-variants.{Some}
@@ -28,3 +28,7 @@ AnsweredAfter s room h call r = (before after : List Row) × (length before ≡ 
 -- each answer of a run, by the calls before it
 abbrev pub AllAnswered : Site → ℕ → List Call → List (Result Answer Refusal) → Type 0
 AllAnswered s room calls answers = (i : ℕ) (call : Call) (r : Result Answer Refusal) → nth calls i ≡ Some call → nth answers i ≡ Some r → AnsweredAfter s room (take i calls) call r
+
+-- the answers to the first n calls of two runs are the same, as far as both have places for them
+abbrev pub Alike : ℕ → List (Result Answer Refusal) → List (Result Answer Refusal) → Type 0
+Alike n xs ys = (i : ℕ) (x y : Result Answer Refusal) → i < n → nth xs i ≡ Some x → nth ys i ≡ Some y → x ≡ y

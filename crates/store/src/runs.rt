@@ -4,7 +4,7 @@ ghost use mathlib.Core.List.{List, [], _∷_};
 ghost use lib.ListN.{length, set, drop};
 ghost use Rattle.store.specs.Ledger.{ledger};
 ghost use Rattle.store.specs.Table.{ledgerOf};
-ghost use Rattle.store.specs.Runs.{callsOf, AllAnswered};
+ghost use Rattle.store.specs.Runs.{callsOf, AllAnswered, Alike};
 use crate::store::Store;
 use crate::types::Answer;
 use crate::types::Call;
@@ -36,4 +36,22 @@ pub fn run<M: SiteMap>(map: M, calls: &[Call<'_>], rows: &mut [Row], answers: &m
         note(answers, i, answer);
     }
     store
+}
+
+/// Sends the calls to two new stores, over two maps that may be of two kinds. Where the maps mean the same, both answer every
+/// call alike, and their ledgers are one.
+pub fn run_both<M: SiteMap, N: SiteMap>(
+    map: M,
+    other: N,
+    calls: &[Call<'_>],
+    rows: &mut [Row],
+    answers: &mut [Result<Answer, Refusal>],
+    others: &mut [Result<Answer, Refusal>],
+) -> (Store<M>, Store<N>)
+    ensures ledgers { λ r. ⌜ (M·SiteMap .meaning map ≡ N·SiteMap .meaning other → ledgerOf (r .0) ≡ ledgerOf (r .1)) ⌝ }
+    ensures alike { λ r. ⌜ (M·SiteMap .meaning map ≡ N·SiteMap .meaning other → Alike (length (now (calls .entry))) (now (answers .exit)) (now (others .exit))) ⌝ }
+{
+    let first = run(map, calls, rows, answers);
+    let second = run(other, calls, rows, others);
+    (first, second)
 }
