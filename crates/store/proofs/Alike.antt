@@ -3,7 +3,7 @@ use mathlib.Core.Path.{_≡_, refl, sym, ap, subst, _∙_}
 use mathlib.Core.Bool.{Bool, true, false, cond, not, _||_}
 use mathlib.Core.List.{List, [], _∷_, _++_, map}
 use mathlib.Core.Logic.{⊎-elim}
-use Prim.Native.Nat.{ℕ, _<_, _≤_}
+use Prim.Native.Nat.{ℕ}
 use native.Mathlib.Omega.{arith}
 use lib.Dec.{eqb, leb, ltb}
 use lib.ListN.{length, take, getD}
@@ -13,7 +13,7 @@ use Rattle.std.proofs.shelf.Tests.{cases-eq, eq-eqb, or-parts, leb-false, true�
 use Rattle.std.specs.declared.option.Option.{Option}
 use Rattle.std.specs.declared.option.Option.the-variants.{Some, None}
 use Rattle.std.specs.declared.result.Result.{Result}
-use Rattle.std.specs.declared.result.Result.the-variants.{Ok, Err}
+use Rattle.std.specs.declared.result.Result.the-variants.{Err}
 use Rattle.site.specs.Site.{Site, rackOf}
 use Rattle.choices.specs.Choice.{Copies, Choice, has, every, apart, choices}
 use Rattle.choices.proofs.Head.{empty-none}
@@ -27,7 +27,7 @@ use Rattle.store.specs.Refusals.{none, first, checks, fresh, refusedBy, number
 use Rattle.store.specs.Ledger.{ledger}
 use Rattle.store.specs.Answers.{Answered}
 use Rattle.store.specs.Promise.{Due, Kept, together}
-use Rattle.store.specs.Runs.{AnsweredAfter, AllAnswered, Alike}
+use Rattle.store.specs.Runs.{AllAnswered, Alike}
 use Rattle.store.proofs.Tells.{coded, uncoded}
 use Rattle.store.proofs.Sound.{Unmet, formed-by}
 use Rattle.store.proofs.Keeps.{accepts, refuses, only-word}

@@ -1,11 +1,9 @@
 -- Setting a code up: the limits as a test, and what a set-up tells.
 use mathlib.Core.Path.{_≡_, refl, sym, ap, _∙_}
-use mathlib.Core.Bool.{Bool, true, false, _||_}
-use mathlib.Core.List.{List, [], map}
+use mathlib.Core.Bool.{true, false}
+use mathlib.Core.List.{[], map}
 use mathlib.Core.Logic.{⊎-elim}
 use Prim.Native.Nat.{ℕ, _-_, _<_, _≤_}
-use native.Mathlib.Omega.{arith}
-use lib.Dec.{leb, ltb}
 use lib.ListN.{length}
 use Rattle.std.proofs.shelf.Tests.{lt-ltb, le-ltb, lt-leb, ltb-false, leb-false}
 use Rattle.std.proofs.shelf.Tests.{or-from, or-parts}
@@ -21,7 +19,6 @@ use Rattle.store.specs.declared.types.Refusal.the-variants.{OutsideLimits, Spa
 use Rattle.store.specs.declared.store.Store.{Store}
 use Rattle.store.specs.Stripes as led
 use Rattle.store.specs.Refusals.{refusedBy, outside}
-use Rattle.store.specs.Ledger.{step}
 use Rattle.store.specs.Fitted.{fitted}
 use Rattle.store.specs.Told.{Told}
 use Rattle.store.specs.Table.{stripeOf, codeOf, ledgerOf}

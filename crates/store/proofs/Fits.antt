@@ -1,11 +1,10 @@
 -- No stripe has more blocks than the code allows.
 use mathlib.Core.Path.{_≡_, refl, sym, ap, _∙_}
-use mathlib.Core.Bool.{Bool, true, false, _&&_}
-use mathlib.Core.List.{List, [], _∷_, map}
+use mathlib.Core.Bool.{Bool, true, false}
+use mathlib.Core.List.{List, [], _∷_}
 use Prim.Native.Nat.{ℕ, zero, suc, _<_, _≤_}
 use native.Mathlib.Omega.{arith}
-use lib.Dec.{eqb, leb}
-use lib.ListN.{length, getD, set, take}
+use lib.ListN.{length, getD, set}
 use Rattle.std.proofs.shelf.Lists.{length-set, length-take-le}
 use Rattle.std.proofs.shelf.Tests.{leb-true, le-leb, eqb-true, eq-eqb, and-parts, and-from, false≢true}
 use Rattle.std.specs.declared.option.Option.{Option}

@@ -1,22 +1,17 @@
 -- What the records of a store hold, as the ledger reads it.
-use mathlib.Core.Path.{_≡_, refl, sym, ap, _∙_}
+use mathlib.Core.Path.{_≡_, refl, ap, _∙_}
 use mathlib.Core.Bool.{Bool, true, false}
 use mathlib.Core.List.{List, [], _∷_, _++_, map}
-use Prim.Native.Nat.{ℕ, _+_, _/_, _%_, _^_, _<_, _≤_}
-use native.Mathlib.Nat.{div-eq-of-lt, le-trans}
+use Prim.Native.Nat.{ℕ, _+_, _/_, _^_, _<_, _≤_}
+use native.Mathlib.Nat.{div-eq-of-lt}
 use native.Mathlib.Omega.{arith}
-use lib.Dec.{eqb}
 use lib.Pow.{pow-mono}
 use lib.ListN.{length, getD, set}
-use Rattle.std.specs.Orderings.{When}
 use Rattle.std.proofs.shelf.Lists.{map-push, length-map, map-set, getD-map}
-use Rattle.std.specs.declared.option.Option.{Option}
-use Rattle.std.specs.declared.option.Option.the-variants.{Some, None}
 use Rattle.site.specs.Words.{member}
 use Rattle.choices.specs.Choice.{has}
 use Rattle.placement.specs.declared.block.Block.{Block}
 use Rattle.placement.specs.declared.lists.Blocks.{Blocks}
-use Rattle.placement.specs.Blocks as told
 use Rattle.placement.specs.Lists as list
 use Rattle.store.specs.declared.stripe.Stripe.{Stripe}
 use Rattle.store.specs.declared.store.Store.{Store}
@@ -53,6 +48,10 @@ no-bit w i h k =
 module _ {M : Type 0} (st : Store M) (i : ℕ) (within : i < 32) where
   pub stripe-at : (d : Stripe) → led.stripe (ledgerOf st) i ≡ stripeOf (getD (st .stripes) i d)
   stripe-at d = let l : i < length (st .stripes) = rw (st .full) within in getD-map stripeOf (st .stripes) i d led.empty l
+
+  -- the record that was read is the ledger's
+  pub stripe-is : (d x : Stripe) → getD (st .stripes) i d ≡ x → led.stripe (ledgerOf st) i ≡ stripeOf x
+  stripe-is d x e = stripe-at d ∙ ap stripeOf e
 
   -- the ledger once the record at i is another
   pub put-at : (new : Stripe) (s : led.Stripe) → stripeOf new ≡ s → map stripeOf (set (st .stripes) i new) ≡ put (ledgerOf st) i s .stripes

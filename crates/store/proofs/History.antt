@@ -3,22 +3,22 @@ use mathlib.Core.Path.{_≡_, refl, sym, ap, subst, _∙_}
 use mathlib.Core.Bool.{Bool, true, false, cond, not, _||_}
 use mathlib.Core.List.{List, [], _∷_, _++_, map}
 use mathlib.Core.Logic.{⊎-elim}
-use Prim.Native.Nat.{ℕ, zero, suc, _+_, _-_, _<_, _≤_}
+use Prim.Native.Nat.{ℕ, suc, _+_, _-_, _<_, _≤_}
 use native.Mathlib.Omega.{arith}
-use lib.Dec.{eqb, ltb}
+use lib.Dec.{eqb}
 use lib.ListN.{length, getD, drop}
-use Rattle.std.specs.shelf.Lists.{All, Has, sumBy, kept-by, folded}
-use Rattle.std.proofs.shelf.Lists.{length-map, length-append, getD-append-left, getD-map}
+use Rattle.std.specs.shelf.Lists.{Has, sumBy, kept-by}
+use Rattle.std.proofs.shelf.Lists.{length-map, length-append, getD-append-left}
 use Rattle.std.proofs.shelf.Elements.{has-getD}
 use Rattle.std.proofs.shelf.Sums.{sumBy-cons, folded-push}
-use Rattle.std.proofs.shelf.Tests.{ltb-false, eqb-true, eqb-false, eq-eqb, ne-eqb, cases-bool, cases-eq, not-false, true≢false, false≢true}
+use Rattle.std.proofs.shelf.Tests.{ltb-false, eq-eqb, ne-eqb, cases-eq, not-false, false≢true}
 use Rattle.std.specs.declared.option.Option.{Option}
 use Rattle.std.specs.declared.option.Option.the-variants.{Some, None}
 use Rattle.std.specs.declared.result.Result.{Result}
 use Rattle.std.specs.declared.result.Result.the-variants.{Ok, Err}
 use Rattle.site.specs.Site.{Site, Limits, rackOf}
-use Rattle.choices.specs.Choice.{Copies, Choice, has, choices}
-use Rattle.choices.specs.Plan.{firstOf, planned, parity, round}
+use Rattle.choices.specs.Choice.{Choice, has, choices}
+use Rattle.choices.specs.Plan.{firstOf, parity, round}
 use Rattle.choices.proofs.Exact.{choices-exact}
 use Rattle.store.specs.declared.types.Row.{Row}
 use Rattle.store.specs.declared.types.Answer.{Answer}
@@ -27,15 +27,14 @@ use Rattle.store.specs.declared.types.Call as code
 use Rattle.store.specs.declared.types.Call.the-variants as call
 use Rattle.store.specs.declared.store.Store.{Store}
 use Rattle.store.specs.Stripes.{Code, Block, Stripe, Ledger, Call, empty, filling, sealed, start, set-up, offer, seal, plan, deletions, standing, release, abandon, blocksOf, planOf, isSealed, stripe, copiesOf}
-use Rattle.store.specs.Refusals.{first, checks, fresh, refusedBy, numberOf}
+use Rattle.store.specs.Refusals.{first, checks, refusedBy, numberOf}
 use Rattle.store.specs.Ledger.{step, ledger}
-use Rattle.store.specs.Answers.{Line, shown, planRows, goneRows, goneOf, accepted, written, Answered}
-use Rattle.store.specs.Promise.{Promised}
+use Rattle.store.specs.Answers.{Line, shown, planRows, goneRows, accepted, written, Answered}
 use Rattle.store.specs.Told.{Answering, Named, Told, Since}
 use Rattle.store.specs.Table.{ledgerOf, callOf}
 use Rattle.store.proofs.Tells.{coded, uncoded}
 use Rattle.store.proofs.Written.{plan-length}
-use Rattle.store.proofs.Sound.{Sound, CodeSound, StripeSound, PlanOf, unmet, ledger-sound}
+use Rattle.store.proofs.Sound.{Sound, unmet, ledger-sound}
 use Rattle.store.proofs.Keeps.{kept, at, whole, shut}
 
 kept-less : (v : ℕ) (xs : List ℕ) → length (kept-by (λ w. not (eqb w v)) xs) ≤ length xs

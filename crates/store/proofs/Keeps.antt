@@ -1,29 +1,26 @@
 -- A call that answers as the rules say at the ledger of a list of calls keeps the whole promise.
 use mathlib.Core.Path.{_≡_, refl, sym, ap, subst, _∙_}
-use mathlib.Core.Bool.{Bool, true, false, cond, not, _&&_, _||_}
+use mathlib.Core.Bool.{Bool, true, false, not, _||_}
 use mathlib.Core.List.{List, [], _∷_, _++_, map}
-use Prim.Native.Nat.{ℕ, zero, suc, _+_, _-_, _*_, _<_, _≤_}
+use Prim.Native.Nat.{ℕ, _+_, _-_, _*_, _<_, _≤_}
 use native.Mathlib.Omega.{arith}
 use lib.Count.{ones}
 use lib.Dec.{eqb, leb, ltb}
-use lib.ListN.{length, getD, drop}
+use lib.ListN.{length, drop}
 use Rattle.std.specs.Results.{isOk}
-use Rattle.std.specs.shelf.Lists.{All, Has, sumBy, kept-by}
-use Rattle.std.proofs.shelf.Lists.{getD-past, length-map, length-append, getD-append-left}
-use Rattle.std.proofs.shelf.Sums.{sumBy-cons}
-use Rattle.std.proofs.shelf.Tests.{lt-ltb, le-ltb, le-leb, lt-leb, ltb-false, ne-eqb, eqb-true, or-from, and-from, or-cases, cases-lt, cases-bool, true≢false, false≢true}
+use Rattle.std.specs.shelf.Lists.{All}
+use Rattle.std.proofs.shelf.Lists.{getD-past, length-map}
+use Rattle.std.proofs.shelf.Tests.{lt-ltb, le-ltb, lt-leb, ne-eqb, or-from, and-from, cases-lt}
 use Rattle.std.specs.declared.option.Option.{Option}
 use Rattle.std.specs.declared.option.Option.the-variants.{Some, None}
 use Rattle.std.specs.declared.result.Result.{Result}
 use Rattle.std.specs.declared.result.Result.the-variants.{Ok, Err}
 use mathlib.Core.Logic.{⊎-elim}
 use Rattle.site.specs.Site.{Site, Limits, rackOf}
-use Rattle.choices.specs.Choice.{Copies, Choice, has, every, apart, choices}
-use Rattle.choices.specs.Plan.{firstOf, planned, parity, round}
+use Rattle.choices.specs.Choice.{Copies, Choice, has, every, choices}
 use Rattle.choices.specs.Tight.{LeastTight}
 use Rattle.choices.specs.Survive.{stand, distinct}
 use Rattle.choices.proofs.Head.{empty-none, none-empty}
-use Rattle.choices.proofs.Exact.{choices-exact}
 use Rattle.choices.proofs.Parity.{planned-full}
 use Rattle.choices.proofs.Survive.{plan-survives}
 use Rattle.store.specs.declared.types.Row.{Row}
@@ -31,14 +28,14 @@ use Rattle.store.specs.declared.types.Answer.{Answer}
 use Rattle.store.specs.declared.types.Answer.the-variants.{Done, Rows, Standing}
 use Rattle.store.specs.declared.types.Refusal.{Refusal}
 use Rattle.store.specs.declared.types.Refusal.the-variants.{OutsideLimits, SpaceBelowN, ListLength, OffMap, NodeTwice, CoreRackAgain, NoSuchRack, NotSetUp, SetUpBefore, BlockHeld, StripeFull, NoChoice, StripeBelowK, Sealed, NotSealed, StripeEmpty, FewRows}
-use Rattle.store.specs.Stripes.{Code, Block, Stripe, Ledger, Call, empty, filling, sealed, set-up, offer, seal, plan, deletions, standing, release, abandon, blocksOf, planOf, isSealed, stripe, copiesOf, holds, core, rest}
-use Rattle.store.specs.Refusals.{none, first, checks, refusedBy, numberOf, onMap}
-use Rattle.store.specs.Answers.{Line, shown, planRows, goneRows, accepted, written, Answered}
-use Rattle.store.specs.Promise.{WellFormed, Due, together, Kept}
-use Rattle.store.specs.Told.{Answering, Named}
-use Rattle.store.proofs.Tells.{coded}
+use Rattle.store.specs.Stripes.{Code, Block, Stripe, Ledger, Call, empty, filling, sealed, offer, seal, plan, standing, blocksOf, planOf, isSealed, stripe, copiesOf, core, rest}
+use Rattle.store.specs.Refusals.{none, first, refusedBy, numberOf, onMap}
+use Rattle.store.specs.Answers.{shown, planRows, accepted, written, Answered}
+use Rattle.store.specs.Promise.{Due, together, Kept}
+use Rattle.store.specs.Told.{Named}
+use Rattle.store.proofs.Tells.{nothing, something, coded}
 use Rattle.store.proofs.Written.{plan-length}
-use Rattle.store.proofs.Sound.{Sound, CodeSound, BlocksSound, StripeSound, CodedSound, PlanOf, all-or, choice-of, unmet}
+use Rattle.store.proofs.Sound.{Sound, CodeSound, BlocksSound, StripeSound, CodedSound, PlanOf, all-or, choice-of}
 
 -- what an answer is, by the refusal that is met
 module _ (s : Site) (l : Ledger) (call : Call) (r : Result Answer Refusal) (before after : List Row) (a : Answered s l call r before after) where
@@ -79,13 +76,6 @@ only-word FewRows h = absurd (omega (arith, h))
 all-every : {X : Type 0} (f : X → Bool) (P : X → Type 0) (xs : List X) → ((x : X) → P x → f x ≡ true) → All P xs → every f xs ≡ true
 all-every f P [] h a = refl
 all-every f P (x ∷ xs) h a = and-from (f x) (every f xs) (h x (a .0)) (all-every f P xs h (a .1))
-
-nothing : {A : Type 0} (xs : List A) → xs ≡ [] → none xs ≡ true
-nothing xs e = ap none e
-
-something : {A : Type 0} (xs : List A) → (xs ≡ [] → ⊥) → none xs ≡ false
-something [] ne = absurd (ne refl)
-something (x ∷ xs) ne = refl
 
 -- a rack whose stripe is not empty is one of the 32
 near : (l : Ledger) (r : ℕ) (x : Stripe) → length (l .stripes) ≡ 32 → stripe l r ≡ x → (x ≡ empty → ⊥) → r < 32

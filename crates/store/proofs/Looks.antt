@@ -1,10 +1,8 @@
 -- Tests over a caller's list of nodes: one node on, where the test stops, and at the end.
-use mathlib.Core.Path.{_≡_, refl, sym, ap, _∙_}
-use mathlib.Core.Bool.{Bool, true, false, _||_, _&&_, not}
-use mathlib.Core.List.{List, [], _∷_, map}
+use mathlib.Core.Path.{_≡_, sym, ap, _∙_}
+use mathlib.Core.Bool.{Bool, true, false}
+use mathlib.Core.List.{List}
 use Prim.Native.Nat.{ℕ, _+_, _-_, _<_, _≤_}
-use native.Mathlib.Omega.{arith}
-use lib.Dec.{eqb}
 use lib.ListN.{length, getD, drop, take}
 use Rattle.std.proofs.shelf.Lists.{drop-more, drop-all, take-rest}
 use Rattle.std.proofs.shelf.Tests.{ne-eqb, eq-eqb}

@@ -1,11 +1,11 @@
 -- Offering a block: which refusal is met, and what is told.
 use mathlib.Core.Path.{_≡_, refl, sym, ap, subst, _∙_}
-use mathlib.Core.Bool.{Bool, true, false, not, _||_}
+use mathlib.Core.Bool.{true, false, not, _||_}
 use mathlib.Core.List.{List, [], _∷_, _++_, map}
 use mathlib.Core.Logic.{⊎-elim}
 use Prim.Native.Nat.{ℕ, _+_, _-_, _<_, _≤_}
 use native.Mathlib.Omega.{arith}
-use lib.Dec.{eqb, leb, ltb}
+use lib.Dec.{eqb, ltb}
 use lib.ListN.{length, getD, set, drop, take}
 use Rattle.std.specs.shelf.Lists.{Has}
 use Rattle.std.proofs.shelf.Elements.{has-getD}
@@ -18,10 +18,10 @@ use Rattle.std.specs.declared.result.Result.the-variants.{Ok, Err}
 use Rattle.site.specs.Site.{Site, Limits, rackOf}
 use Rattle.site.specs.declared.Node.{Node}
 use Rattle.choices.proofs.Parity.{rack-below}
-use Rattle.choices.specs.Choice.{Copies, Choice, has, every, apart, choices}
+use Rattle.choices.specs.Choice.{Copies, has, every, apart, choices}
 use Rattle.choices.specs.Tight.{LeastTight}
 use Rattle.choices.specs.Hall.{Some-choice}
-use Rattle.choices.proofs.Head.{empty-none, empty-or}
+use Rattle.choices.proofs.Head.{empty-or}
 use Rattle.choices.specs.Plan.{planned}
 use Rattle.choices.proofs.Exact.{choices-exact}
 use Rattle.placement.specs.declared.code.Code.{Code}
@@ -31,23 +31,21 @@ use Rattle.placement.specs.declared.lists.Nodes.{Nodes}
 use Rattle.placement.specs.Blocks as told
 use Rattle.placement.specs.Lists as list
 use Rattle.placement.specs.Resolved.{Crowded-out}
-use Rattle.store.specs.declared.types.Row.{Row}
 use Rattle.store.specs.declared.types.Answer.{Answer}
-use Rattle.store.specs.declared.types.Answer.the-variants.{Position}
 use Rattle.store.specs.declared.types.Refusal.{Refusal}
 use Rattle.store.specs.declared.types.Refusal.the-variants.{ListLength, OffMap, NodeTwice, CoreRackAgain, BlockHeld, StripeFull, NoChoice, StripeBelowK, Sealed}
 use Rattle.store.specs.declared.stripe.Stripe.{Stripe}
-use Rattle.store.specs.declared.stripe.Stripe.the-variants.{Empty, Filling}
+use Rattle.store.specs.declared.stripe.Stripe.the-variants.{Filling}
 use Rattle.store.specs.declared.store.Store.{Store}
 use Rattle.store.specs.Stripes as led
 use Rattle.store.specs.Refusals.{none, refusedBy, numberOf, onMap, checks, first}
-use Rattle.store.specs.Ledger.{put, step, noted}
+use Rattle.store.specs.Ledger.{put}
 use Rattle.store.specs.Promise.{together}
 use Rattle.store.specs.Told.{Told, Named, Tried}
 use Rattle.store.specs.Table.{heldOf, heldsOf, stripeOf, codeOf, ledgerOf}
-use Rattle.store.proofs.Held.{stripe-at, put-at, helds-lists, helds-length}
+use Rattle.store.proofs.Held.{stripe-at, stripe-is, put-at, helds-lists, helds-length}
 use Rattle.store.proofs.Written.{copies-length}
-use Rattle.store.proofs.Tells.{coded, code-some, ruled, rack-near, told-refusal, told-done, unnamed, step-noted}
+use Rattle.store.proofs.Tells.{nothing, something, coded, code-some, ruled, rack-near, told-refusal, told-done, unnamed, step-noted}
 
 -- a look for a number through the stripes
 module _ (ss : List Stripe) (b i : ℕ) (d : Stripe) where
@@ -59,13 +57,6 @@ module _ (ss : List Stripe) (b i : ℕ) (d : Stripe) where
 
 pub look-end : (ss : List Stripe) (b i : ℕ) → length ss ≤ i → led.holds (map stripeOf (drop i ss)) b ≡ false
 look-end ss b i h = rw (drop-all i ss h)
-
-nothing : {A : Type 0} (xs : List A) → xs ≡ [] → none xs ≡ true
-nothing xs e = ap none e
-
-something : {A : Type 0} (xs : List A) → (xs ≡ [] → ⊥) → none xs ≡ false
-something [] ne = absurd (ne refl)
-something (x ∷ xs) ne = refl
 
 -- the checks of an offer, each where those before it are passed
 module _ {M : Type 0} (s : Site) (st : Store M) (b : ℕ) (vs : Copies) (o : Code) (c : st .code ≡ Some o) where
@@ -170,22 +161,19 @@ added st r d near new b e =
 
 -- sealing
 module _ {M : Type 0} (s : Site) (st : Store M) (r : ℕ) (d : Stripe) (o : Code) (c : st .code ≡ Some o) (near : r < 32) (v : ℕ) (on : v < length s) where
-  at : (x : Stripe) → getD (st .stripes) r d ≡ x → led.stripe (ledgerOf st) r ≡ stripeOf x
-  at x e = stripe-at st r near d ∙ ap stripeOf e
-
   pub seal-below : (x : Stripe) → getD (st .stripes) r d ≡ x → led.isSealed (stripeOf x) ≡ false → length (led.blocksOf (stripeOf x)) < o .k → Told s st st (led.seal r v) (Err StripeBelowK) [] []
   seal-below x e n h =
       let a7 = rack-near r near in
       let a4 = lt-ltb v (length s) on in
-      let a26 : led.isSealed (led.stripe (ledgerOf st) r) ≡ false = ap led.isSealed (at x e) ∙ n in
-      let a25 : ltb (length (led.blocksOf (led.stripe (ledgerOf st) r))) (o .k) ≡ true = lt-ltb _ (o .k) (omega (arith, h, ap (λ y. length (led.blocksOf y)) (at x e))) in
+      let a26 : led.isSealed (led.stripe (ledgerOf st) r) ≡ false = ap led.isSealed (stripe-is st r near d x e) ∙ n in
+      let a25 : ltb (length (led.blocksOf (led.stripe (ledgerOf st) r))) (o .k) ≡ true = lt-ltb _ (o .k) (omega (arith, h, ap (λ y. length (led.blocksOf y)) (stripe-is st r near d x e))) in
       told-refusal s st (led.seal r v) [] StripeBelowK (coded s (ledgerOf st) (led.seal r v) (ruled o) (Some 25) (code-some st o c) (rw (a7, a4, a26, a25) refl)) (unnamed s (ledgerOf st) (led.seal r v) _ refl)
 
   pub seal-again : (x : Stripe) → getD (st .stripes) r d ≡ x → led.isSealed (stripeOf x) ≡ true → Told s st st (led.seal r v) (Err Sealed) [] []
   seal-again x e n =
       let a7 = rack-near r near in
       let a4 = lt-ltb v (length s) on in
-      let a26 : led.isSealed (led.stripe (ledgerOf st) r) ≡ true = ap led.isSealed (at x e) ∙ n in
+      let a26 : led.isSealed (led.stripe (ledgerOf st) r) ≡ true = ap led.isSealed (stripe-is st r near d x e) ∙ n in
       told-refusal s st (led.seal r v) [] Sealed (coded s (ledgerOf st) (led.seal r v) (ruled o) (Some 26) (code-some st o c) (rw (a7, a4, a26) refl)) (unnamed s (ledgerOf st) (led.seal r v) _ refl)
 
   module _ (bs : Blocks) (e : getD (st .stripes) r d ≡ Filling bs) (h : o .k ≤ length (list.blocksOf bs)) where
@@ -193,8 +181,8 @@ module _ {M : Type 0} (s : Site) (st : Store M) (r : ℕ) (d : Stripe) (o : Code
     seal-none =
         let a7 = rack-near r near in
         let a4 = lt-ltb v (length s) on in
-        let a26 : led.isSealed (led.stripe (ledgerOf st) r) ≡ false = ap led.isSealed (at (Filling bs) e) in
-        let a25 : ltb (length (led.blocksOf (led.stripe (ledgerOf st) r))) (o .k) ≡ false = le-ltb _ (o .k) (omega (arith, h, helds-length bs, ap (λ y. length (led.blocksOf y)) (at (Filling bs) e))) in
+        let a26 : led.isSealed (led.stripe (ledgerOf st) r) ≡ false = ap led.isSealed (stripe-is st r near d (Filling bs) e) in
+        let a25 : ltb (length (led.blocksOf (led.stripe (ledgerOf st) r))) (o .k) ≡ false = le-ltb _ (o .k) (omega (arith, h, helds-length bs, ap (λ y. length (led.blocksOf y)) (stripe-is st r near d (Filling bs) e))) in
         coded s (ledgerOf st) (led.seal r v) (ruled o) None (code-some st o c) (rw (a7, a4, a26, a25) refl)
 
     -- its blocks and plan are those that the rules note
@@ -202,7 +190,7 @@ module _ {M : Type 0} (s : Site) (st : Store M) (r : ℕ) (d : Stripe) (o : Code
         → list.nodesOf p ≡ planned s (o .n) (o .k) (o .c) (list.listsOf bs) v
         → stripeOf new ≡ led.sealed (led.blocksOf (led.stripe (ledgerOf st) r)) (planned s (o .n) (o .k) (o .c) (led.copiesOf (led.blocksOf (led.stripe (ledgerOf st) r))) v)
     seal-noted d′ new p f q =
-        let lists : list.listsOf bs ≡ led.copiesOf (led.blocksOf (led.stripe (ledgerOf st) r)) = sym (helds-lists bs) ∙ ap (λ y. led.copiesOf (led.blocksOf y)) (sym (at (Filling bs) e)) in
+        let lists : list.listsOf bs ≡ led.copiesOf (led.blocksOf (led.stripe (ledgerOf st) r)) = sym (helds-lists bs) ∙ ap (λ y. led.copiesOf (led.blocksOf y)) (sym (stripe-is st r near d (Filling bs) e)) in
         f ∙ (ap (λ y. led.sealed (led.blocksOf y) (list.nodesOf p)) (sym (stripe-at st r near d′)) ∙ ap (led.sealed (led.blocksOf (led.stripe (ledgerOf st) r))) (q ∙ ap (λ l. planned s (o .n) (o .k) (o .c) l v) lists))
 
 -- the list of a block

@@ -1,6 +1,6 @@
 -- Plan, deletions and standing: which refusal they meet, and what they tell.
 use mathlib.Core.Path.{_≡_, refl, sym, ap, _∙_}
-use mathlib.Core.Bool.{Bool, true, false, not}
+use mathlib.Core.Bool.{true, false}
 use mathlib.Core.List.{List, [], _++_, map}
 use Prim.Native.Nat.{ℕ, _-_, _<_, _≤_}
 use native.Mathlib.Omega.{arith}
@@ -24,21 +24,17 @@ use Rattle.store.specs.declared.stripe.Stripe.{Stripe}
 use Rattle.store.specs.declared.stripe.Stripe.the-variants.{Sealed}
 use Rattle.store.specs.declared.store.Store.{Store}
 use Rattle.store.specs.Stripes as led
-use Rattle.store.specs.Refusals.{refusedBy, onMap}
+use Rattle.store.specs.Refusals.{onMap}
 use Rattle.choices.specs.Survive.{stand}
 use Rattle.store.specs.Answers.{Line, shown, lines, planRows, goneRows}
 use Rattle.store.specs.Told.{Told}
 use Rattle.store.specs.Table.{heldsOf, stripeOf, ledgerOf}
-use Rattle.store.proofs.Held.{stripe-at}
+use Rattle.store.proofs.Held.{stripe-is}
 use Rattle.store.proofs.Tells.{coded, code-some, ruled, rack-near, step-noted, told-refusal, told-done, unnamed-call}
 
 module _ {M : Type 0} (s : Site) (st : Store M) (r : ℕ) (d : Stripe) (o : Code) (c : st .code ≡ Some o) (within : r < 32) where
-  -- the stripe that was read is the ledger's
-  at : (x : Stripe) → getD (st .stripes) r d ≡ x → led.stripe (ledgerOf st) r ≡ stripeOf x
-  at x e = stripe-at st r within d ∙ ap stripeOf e
-
   unsealed : (x : Stripe) → getD (st .stripes) r d ≡ x → led.isSealed (stripeOf x) ≡ false → led.isSealed (led.stripe (ledgerOf st) r) ≡ false
-  unsealed x e n = ap led.isSealed (at x e) ∙ n
+  unsealed x e n = ap led.isSealed (stripe-is st r within d x e) ∙ n
 
   module _ (x : Stripe) (e : getD (st .stripes) r d ≡ x) (n : led.isSealed (stripeOf x) ≡ false) where
     pub plan-unsealed : (rows : List Row) → Told s st st (led.plan r (length rows)) (Err NotSealed) rows rows
@@ -70,7 +66,7 @@ module _ {M : Type 0} (s : Site) (st : Store M) (r : ℕ) (d : Stripe) (o : Code
 
   module _ (bs : Blocks) (p : Nodes) (e : getD (st .stripes) r d ≡ Sealed bs p) where
     is : led.stripe (ledgerOf st) r ≡ led.sealed (heldsOf bs) (nodesOf p)
-    is = at (Sealed bs p) e
+    is = stripe-is st r within d (Sealed bs p) e
 
     shut : led.isSealed (led.stripe (ledgerOf st) r) ≡ true
     shut = ap led.isSealed is

@@ -1,6 +1,6 @@
 -- One more call of a run.
 use mathlib.Core.Path.{_≡_, refl, sym, ap, subst, _∙_}
-use mathlib.Core.List.{List, [], _∷_, _++_, map}
+use mathlib.Core.List.{List, [], _∷_, _++_}
 use mathlib.Core.Logic.{⊎-elim}
 use Prim.Native.Nat.{ℕ, zero, suc, _+_, _<_, _≤_}
 use native.Mathlib.Omega.{arith}
@@ -9,8 +9,7 @@ use Rattle.std.specs.shelf.Maps.{nth}
 use Rattle.std.proofs.shelf.Maps.{nth-getD}
 use Rattle.std.proofs.shelf.Lists.{take-more, drop-set-lt, drop-drop, getD-map, length-map}
 use Rattle.std.proofs.shelf.Tests.{cases-eq}
-use Rattle.std.specs.declared.option.Option.{Option}
-use Rattle.std.specs.declared.option.Option.the-variants.{Some, None}
+use Rattle.std.specs.declared.option.Option.the-variants.{Some}
 use Rattle.std.specs.declared.result.Result.{Result}
 use Rattle.site.specs.Site.{Site}
 use Rattle.store.specs.declared.types.Row.{Row}

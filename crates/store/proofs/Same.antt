@@ -1,7 +1,7 @@
 -- Equal ledgers are equal stores, over equal maps.
 use mathlib.Core.Path.{_≡_, refl, sym, ap, subst, _∙_}
 use mathlib.Core.Bool.{true, Bool-set}
-use mathlib.Core.List.{List, [], _∷_, map}
+use mathlib.Core.List.{List, map}
 use Prim.Native.Nat.{ℕ}
 use native.Mathlib.Nat.{ℕ-set}
 use native.Mathlib.Omega.{arith}
@@ -10,9 +10,7 @@ use Rattle.std.specs.declared.option.Option.{Option}
 use Rattle.std.specs.declared.option.Option.the-variants.{Some, None}
 use Rattle.placement.specs.declared.block.Block.{Block}
 use Rattle.placement.specs.declared.lists.Blocks.{Blocks}
-use Rattle.placement.specs.declared.lists.Nodes.{Nodes}
 use Rattle.placement.specs.declared.code.Code.{Code}
-use Rattle.placement.specs.Blocks.{told}
 use Rattle.placement.specs.Lists.{blocksOf, nodesOf}
 use Rattle.placement.proofs.Same.{same-blocks, same-nodes, same-code, map-one}
 use Rattle.store.specs.declared.stripe.Stripe.{Stripe}

@@ -1,11 +1,11 @@
 -- What the ledger of every list of calls is: its code within the limits and with space for it, every stripe's blocks well formed and
 -- with a choice, and every plan that of its blocks.
 use mathlib.Core.Path.{_≡_, refl, sym, ap, subst, _∙_}
-use mathlib.Core.Bool.{Bool, true, false, cond, not, _&&_, _||_}
+use mathlib.Core.Bool.{Bool, true, false, cond, not, _||_}
 use mathlib.Core.List.{List, [], _∷_, _++_, map}
 use Prim.Native.Nat.{ℕ, zero, suc, _+_, _<_, _≤_}
 use native.Mathlib.Omega.{arith}
-use lib.Dec.{eqb, leb, ltb}
+use lib.Dec.{eqb, ltb}
 use lib.ListN.{length, getD, set, replicate}
 use Rattle.std.specs.shelf.Lists.{All, folded}
 use Rattle.std.proofs.shelf.Elements.{all-set, all-push}
@@ -18,8 +18,8 @@ use Rattle.choices.specs.Choice.{Copies, every, apart, choices}
 use Rattle.choices.specs.Room.{space}
 use Rattle.choices.specs.Plan.{planned}
 use Rattle.placement.specs.Codes.{Within}
-use Rattle.store.specs.Stripes.{Code, Block, Stripe, Ledger, Call, empty, filling, sealed, start, set-up, offer, seal, plan, deletions, standing, release, abandon, blocksOf, isSealed, stripe, copiesOf, holds, core, rest}
-use Rattle.store.specs.Refusals.{none, first, checks, fresh, refusedBy, onMap, outside}
+use Rattle.store.specs.Stripes.{Code, Block, Stripe, Ledger, Call, empty, filling, sealed, start, set-up, offer, seal, plan, deletions, standing, release, abandon, blocksOf, isSealed, stripe, copiesOf, core, rest}
+use Rattle.store.specs.Refusals.{none, first, checks, fresh, refusedBy, onMap}
 use Rattle.store.specs.Ledger.{put, noted, codeNoted, step, ledger}
 use Rattle.store.specs.Promise.{WellFormed}
 use Rattle.store.proofs.Coded.{within}

@@ -1,12 +1,11 @@
 -- How a call's contract is put together: from the refusal that it meets, or from what it notes.
-use mathlib.Core.Path.{_≡_, refl, sym, ap, subst, _∙_}
-use mathlib.Core.Bool.{Bool, true, false, cond, not}
+use mathlib.Core.Path.{_≡_, refl, sym, ap, _∙_}
+use mathlib.Core.Bool.{Bool, true, false}
 use mathlib.Core.List.{List, [], _∷_, _++_, map}
 use Prim.Native.Nat.{ℕ, _+_, _<_, _≤_}
 use native.Mathlib.Omega.{arith}
 use lib.Dec.{eqb, ltb}
 use lib.ListN.{length, drop, getD, set}
-use Rattle.std.specs.Results.{isErr}
 use Rattle.std.proofs.shelf.Tests.{false≢true, le-ltb, lt-ltb}
 use Rattle.std.specs.declared.option.Option.{Option}
 use Rattle.std.specs.declared.option.Option.the-variants.{Some, None}
@@ -21,12 +20,12 @@ use Rattle.store.specs.declared.stripe.Stripe.{Stripe}
 use Rattle.store.specs.declared.store.Store.{Store}
 use Rattle.store.specs.Stripes as led
 use Rattle.store.specs.Stripes.{Ledger, Call}
-use Rattle.store.specs.Refusals.{first, checks, fresh, refusedBy, numberOf}
+use Rattle.store.specs.Refusals.{none, first, checks, fresh, refusedBy, numberOf}
 use Rattle.store.specs.Ledger.{put, noted, codeNoted, step}
 use Rattle.store.specs.Answers.{accepted, written, shown}
 use Rattle.store.specs.Told.{Told, Answering, Named}
 use Rattle.store.specs.Table.{stripeOf, codeOf, ledgerOf}
-use Rattle.store.proofs.Held.{stripe-at, put-at}
+use Rattle.store.proofs.Held.{stripe-is, put-at}
 
 module _ (s : Site) (l : Ledger) (call : Call) where
   pub coded : (o : led.Code) (x : Option ℕ) → l .code ≡ Some o → first (checks s o l call) ≡ x → refusedBy s l call ≡ x
@@ -96,6 +95,14 @@ module _ {M : Type 0} (s : Site) (st : Store M) (call : Call) (rows : List Row) 
     refused = λ e. absurd (false≢true e);
   }
 
+-- whether a list is empty, as a test
+pub nothing : {A : Type 0} (xs : List A) → xs ≡ [] → none xs ≡ true
+nothing xs e = ap none e
+
+pub something : {A : Type 0} (xs : List A) → (xs ≡ [] → ⊥) → none xs ≡ false
+something [] ne = absurd (ne refl)
+something (x ∷ xs) ne = refl
+
 -- the racks
 pub rack-far : (r : ℕ) → 32 ≤ r → ltb 31 r ≡ true
 rack-far r h = lt-ltb 31 r (omega arith)
@@ -112,31 +119,28 @@ code-some st o e = ap codeOf e
 
 -- a stripe that is emptied
 module _ {M : Type 0} (s : Site) (st : Store M) (r : ℕ) (d : Stripe) (o : Code) (c : st .code ≡ Some o) (within : r < 32) where
-  at : (x : Stripe) → getD (st .stripes) r d ≡ x → led.stripe (ledgerOf st) r ≡ stripeOf x
-  at x e = stripe-at st r within d ∙ ap stripeOf e
-
   pub release-not : (x : Stripe) → getD (st .stripes) r d ≡ x → led.isSealed (stripeOf x) ≡ false → refusedBy s (ledgerOf st) (led.release r) ≡ Some 27
   release-not x e n =
       let a = rack-near r within in
-      let b : led.isSealed (led.stripe (ledgerOf st) r) ≡ false = ap led.isSealed (at x e) ∙ n in
+      let b : led.isSealed (led.stripe (ledgerOf st) r) ≡ false = ap led.isSealed (stripe-is st r within d x e) ∙ n in
       coded s (ledgerOf st) (led.release r) (ruled o) (Some 27) (code-some st o c) (rw (a, b) refl)
 
   pub release-done : (x : Stripe) → getD (st .stripes) r d ≡ x → led.isSealed (stripeOf x) ≡ true → refusedBy s (ledgerOf st) (led.release r) ≡ None
   release-done x e n =
       let a = rack-near r within in
-      let b : led.isSealed (led.stripe (ledgerOf st) r) ≡ true = ap led.isSealed (at x e) ∙ n in
+      let b : led.isSealed (led.stripe (ledgerOf st) r) ≡ true = ap led.isSealed (stripe-is st r within d x e) ∙ n in
       coded s (ledgerOf st) (led.release r) (ruled o) None (code-some st o c) (rw (a, b) refl)
 
   pub abandon-not : (x : Stripe) → getD (st .stripes) r d ≡ x → led.isEmpty (stripeOf x) ≡ true → refusedBy s (ledgerOf st) (led.abandon r) ≡ Some 28
   abandon-not x e n =
       let a = rack-near r within in
-      let b : led.isEmpty (led.stripe (ledgerOf st) r) ≡ true = ap led.isEmpty (at x e) ∙ n in
+      let b : led.isEmpty (led.stripe (ledgerOf st) r) ≡ true = ap led.isEmpty (stripe-is st r within d x e) ∙ n in
       coded s (ledgerOf st) (led.abandon r) (ruled o) (Some 28) (code-some st o c) (rw (a, b) refl)
 
   pub abandon-done : (x : Stripe) → getD (st .stripes) r d ≡ x → led.isEmpty (stripeOf x) ≡ false → refusedBy s (ledgerOf st) (led.abandon r) ≡ None
   abandon-done x e n =
       let a = rack-near r within in
-      let b : led.isEmpty (led.stripe (ledgerOf st) r) ≡ false = ap led.isEmpty (at x e) ∙ n in
+      let b : led.isEmpty (led.stripe (ledgerOf st) r) ≡ false = ap led.isEmpty (stripe-is st r within d x e) ∙ n in
       coded s (ledgerOf st) (led.abandon r) (ruled o) None (code-some st o c) (rw (a, b) refl)
 
   -- the record at r is another, and nothing else

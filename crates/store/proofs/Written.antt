@@ -1,19 +1,19 @@
 -- The rows of a plan and of its deletions, one after the other.
 use mathlib.Core.Path.{_≡_, refl, sym, ap, _∙_}
-use mathlib.Core.Bool.{Bool, true, false, cond, not, _&&_}
+use mathlib.Core.Bool.{Bool, cond, not}
 use mathlib.Core.List.{List, [], _∷_, _++_, map}
-use Prim.Native.Nat.{ℕ, zero, suc, _+_, _-_, _*_, _<_, _≤_}
+use Prim.Native.Nat.{ℕ, zero, suc, _+_, _-_, _<_, _≤_}
 use native.Mathlib.Omega.{arith}
 use lib.Dec.{eqb}
 use lib.ListN.{length, getD, set, take, drop}
 use Rattle.std.specs.shelf.Lists.{kept-by, countBy, sumBy, folded}
 use Rattle.std.specs.shelf.Maps.{nth}
-use Rattle.std.proofs.shelf.Lists.{append-assoc, append-nil, take-all, set-at, set-past, drop-more, map-set, map-more, map-push, length-map, length-push, length-append, take-more, length-take-le, take-at, take-append-drop, drop-drop, drop-at, getD-map}
-use Rattle.std.proofs.shelf.Elements.{kept-by-append, kept-by-more}
+use Rattle.std.proofs.shelf.Lists.{append-assoc, append-nil, take-all, set-at, drop-more, map-set, map-push, length-map, length-push, length-append, take-more, length-take-le, take-at, take-append-drop, drop-drop, drop-at, getD-map}
+use Rattle.std.proofs.shelf.Elements.{kept-by-more}
 use Rattle.std.proofs.shelf.Tests.{ne-eqb, eq-eqb}
 use Rattle.placement.specs.declared.lists.Nodes.{Nodes}
 use Rattle.placement.specs.Lists.{nodesOf}
-use Rattle.std.proofs.shelf.Sums.{sumBy-push, sumBy-more, countBy-le-length, length-kept-by}
+use Rattle.std.proofs.shelf.Sums.{sumBy-more, countBy-le-length, length-kept-by}
 use Rattle.std.specs.declared.option.Option.{Option}
 use Rattle.std.specs.declared.option.Option.the-variants.{Some, None}
 use Rattle.site.specs.Site.{Site, rackOf}

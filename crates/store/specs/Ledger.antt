@@ -6,7 +6,7 @@ use Rattle.std.specs.shelf.Lists.{folded}
 use Rattle.std.specs.declared.option.Option.the-variants.{Some, None}
 use Rattle.site.specs.Site.{Site}
 use Rattle.choices.specs.Plan.{planned}
-use Rattle.store.specs.Stripes.{Code, Block, Stripe, Ledger, Call, empty, filling, sealed, start, set-up, offer, seal, plan, deletions, standing, release, abandon, blocksOf, stripe, copiesOf, core}
+use Rattle.store.specs.Stripes.{Code, Stripe, Ledger, Call, empty, filling, sealed, start, set-up, offer, seal, plan, deletions, standing, release, abandon, blocksOf, stripe, copiesOf, core}
 use Rattle.store.specs.Refusals.{refusedBy}
 
 abbrev pub put : Ledger → ℕ → Stripe → Ledger

@@ -7,7 +7,7 @@ use lib.Count.{ones}
 use lib.ListN.{length, drop}
 use Rattle.std.specs.Results.{isOk}
 use Rattle.std.specs.shelf.Lists.{All}
-use Rattle.std.specs.declared.option.Option.the-variants.{Some, None}
+use Rattle.std.specs.declared.option.Option.the-variants.{Some}
 use Rattle.std.specs.declared.result.Result.{Result}
 use Rattle.std.specs.declared.result.Result.the-variants.{Ok, Err}
 use Rattle.site.specs.Site.{Site, rackOf}

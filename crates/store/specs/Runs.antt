@@ -1,6 +1,6 @@
 -- Whole runs: a list of calls sent to a new store, one after the other.
 use mathlib.Core.Path.{_≡_}
-use mathlib.Core.List.{List, [], _∷_, map}
+use mathlib.Core.List.{List, map}
 use Prim.Native.Nat.{ℕ, _<_}
 use lib.ListN.{length, take}
 use Rattle.std.specs.shelf.Maps.{nth}

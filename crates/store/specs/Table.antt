@@ -1,5 +1,5 @@
 -- The ledger that a store stands for, and the call that the rules read in a call of the code.
-use mathlib.Core.List.{List, [], _∷_, map}
+use mathlib.Core.List.{List, map}
 use Prim.Native.Nat.{ℕ}
 use denote.Ref.{now}
 use Rattle.std.specs.declared.option.Option.{Option}

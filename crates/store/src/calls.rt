@@ -1,6 +1,6 @@
 // Any of the eight calls, with the whole promise.
 ghost use mathlib.Core.Path.{_≡_};
-ghost use mathlib.Core.List.{List, [], _∷_, _++_};
+ghost use mathlib.Core.List.{List};
 ghost use lib.ListN.{length};
 ghost use Rattle.store.specs.Stripes.{Call as Asked};
 ghost use Rattle.store.specs.Ledger.{ledger};

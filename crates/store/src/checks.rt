@@ -1,10 +1,9 @@
 // What is asked of a caller's nodes before anything else.
 ghost use mathlib.Core.Path.{_≡_};
-ghost use mathlib.Core.Bool.{Bool, true, false, not};
-ghost use mathlib.Core.List.{List, [], _∷_, map};
-ghost use Prim.Native.Nat.{ℕ, _<_, _≤_};
+ghost use mathlib.Core.Bool.{true, false, not};
+ghost use mathlib.Core.List.{map};
+ghost use Prim.Native.Nat.{_<_};
 ghost use lib.Dec.{eqb};
-ghost use lib.ListN.{length};
 ghost use Rattle.site.specs.Site.{rackOf};
 ghost use Rattle.site.specs.Words.{member};
 ghost use Rattle.choices.specs.Choice.{has, apart, every};

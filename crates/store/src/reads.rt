@@ -1,7 +1,7 @@
 // The calls that change nothing in the store: plan, deletions and standing.
 ghost use mathlib.Core.Path.{_≡_};
-ghost use mathlib.Core.Bool.{Bool, _&&_, not};
-ghost use mathlib.Core.List.{List, []};
+ghost use mathlib.Core.Bool.{_&&_, not};
+ghost use mathlib.Core.List.{[]};
 ghost use lib.ListN.{length};
 ghost use Rattle.site.specs.Site.{rackOf};
 ghost use Rattle.site.specs.Words.{member};

@@ -1,7 +1,7 @@
 // What is read of a stripe's record, and what is done to one that is lent.
 ghost use mathlib.Core.Path.{_≡_};
-ghost use mathlib.Core.List.{List, [], _∷_, _++_, map};
-ghost use Prim.Native.Nat.{ℕ, _<_};
+ghost use mathlib.Core.List.{[], _∷_, _++_, map};
+ghost use Prim.Native.Nat.{_<_};
 ghost use lib.ListN.{length};
 ghost use Rattle.choices.specs.Choice.{has};
 ghost use Rattle.placement.specs.Lists.{nodesOf};

@@ -1,7 +1,7 @@
 // The rows of a plan and of its deletions, written into the caller's rows in place.
 ghost use mathlib.Core.Path.{_≡_};
-ghost use mathlib.Core.List.{List, [], _∷_, _++_};
-ghost use Prim.Native.Nat.{ℕ, _+_, _-_, _<_, _≤_};
+ghost use mathlib.Core.List.{_++_};
+ghost use Prim.Native.Nat.{_+_, _-_, _<_, _≤_};
 ghost use lib.ListN.{length, set, take, drop};
 ghost use Rattle.std.specs.shelf.Lists.{sumBy};
 ghost use Rattle.site.specs.Site.{rackOf};

@@ -1,6 +1,5 @@
 // A whole list of calls, sent to a new store.
 ghost use mathlib.Core.Path.{_≡_};
-ghost use mathlib.Core.List.{List, [], _∷_};
 ghost use lib.ListN.{length, set, drop};
 ghost use Rattle.store.specs.Ledger.{ledger};
 ghost use Rattle.store.specs.Table.{ledgerOf};

@@ -1,6 +1,5 @@
 // Giving a store its code.
-ghost use mathlib.Core.Path.{_≡_};
-ghost use mathlib.Core.List.{List, []};
+ghost use mathlib.Core.List.{[]};
 ghost use Rattle.store.specs.Stripes.{set-up};
 ghost use Rattle.store.specs.Told.{Told};
 use crate::store::Store;

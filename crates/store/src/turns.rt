@@ -1,6 +1,6 @@
 // Making a store, and the calls that empty a stripe.
 ghost use mathlib.Core.Path.{_≡_};
-ghost use mathlib.Core.List.{List, []};
+ghost use mathlib.Core.List.{[]};
 ghost use Rattle.store.specs.Stripes.{start, release, abandon};
 ghost use Rattle.store.specs.Table.{ledgerOf};
 ghost use Rattle.store.specs.Told.{Told};

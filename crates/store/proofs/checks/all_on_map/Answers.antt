@@ -1,4 +1,4 @@
-use mathlib.Core.Path.{_≡_, sym, _∙_}
+use mathlib.Core.Path.{sym, _∙_}
 use Rattle.std.proofs.shelf.Tests.{lt-ltb, le-ltb}
 use Rattle.store.specs.Refusals.{onMap}
 use Rattle.store.proofs.Looks.{every-more, every-stop, every-end}

@@ -1,4 +1,4 @@
-use mathlib.Core.Path.{_≡_, refl, sym, ap, _∙_}
+use mathlib.Core.Path.{sym, ap, _∙_}
 use Rattle.store.specs.Stripes.{core}
 use Rattle.placement.specs.Blocks.{numbers}
 use Rattle.std.proofs.shelf.Lists.{nil-from-length}

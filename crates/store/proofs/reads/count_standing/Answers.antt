@@ -1,9 +1,8 @@
 use mathlib.Core.Path.{_≡_, sym, ap, _∙_}
-use mathlib.Core.Bool.{Bool, _&&_, not, cond, true, false}
-use Prim.Native.Nat.{ℕ, _+_, _<_}
+use mathlib.Core.Bool.{Bool, _&&_, not, cond}
+use Prim.Native.Nat.{ℕ, _<_}
 use native.Mathlib.Omega.{arith}
-use lib.ListN.{length, take}
-use Rattle.std.specs.shelf.Lists.{countBy}
+use lib.ListN.{length}
 use Rattle.std.proofs.shelf.Lists.{length-map, take-all}
 use Rattle.site.specs.Site.{rackOf}
 use Rattle.site.specs.Words.{member}

@@ -1,9 +1,8 @@
 use mathlib.Core.Path.{_≡_, refl, sym, ap, subst, _∙_}
 use Prim.Native.Nat.{_+_, _<_, _≤_}
 use native.Mathlib.Omega.{arith}
-use lib.ListN.{length, getD, set, take, drop}
+use lib.ListN.{length, getD, take, drop}
 use Rattle.std.proofs.shelf.Lists.{take-all}
-use Rattle.site.specs.Site.{Site}
 use Rattle.store.specs.declared.types.Call.the-variants as call
 use Rattle.store.specs.Ledger.{ledger}
 use Rattle.store.specs.Told.{Since}

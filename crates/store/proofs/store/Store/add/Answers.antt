@@ -1,6 +1,6 @@
-use mathlib.Core.Path.{_≡_, refl, sym, ap, subst, _∙_}
-use mathlib.Core.List.{List, [], _∷_, _++_}
-use Prim.Native.Nat.{ℕ, _+_}
+use mathlib.Core.Path.{_≡_, refl, ap, subst, _∙_}
+use mathlib.Core.List.{[], _∷_, _++_}
+use Prim.Native.Nat.{_+_}
 use native.Mathlib.Omega.{arith}
 use lib.ListN.{length, getD}
 use Rattle.std.proofs.shelf.Lists.{length-push}
@@ -10,7 +10,7 @@ use Rattle.placement.specs.Lists.{listsOf}
 use Rattle.placement.specs.Resolved.{Crowded-out}
 use Rattle.store.specs.declared.types.Answer.the-variants.{Position}
 use Rattle.store.specs.Stripes as led
-use Rattle.store.specs.Table.{heldOf, stripeOf, ledgerOf}
+use Rattle.store.specs.Table.{heldOf, stripeOf}
 use Rattle.store.proofs.Held.{stripe-at}
 use Rattle.store.proofs.Fits.{fits-put, allowed-filling}
 use Rattle.store.proofs.Offering.{tried-no, tried-choice, own-length, added}

@@ -1,7 +1,6 @@
-use mathlib.Core.Path.{_≡_, refl}
+use mathlib.Core.Path.{refl}
 use lib.ListN.{length}
 use Rattle.store.specs.declared.types.Call.the-variants as call
-use Rattle.store.specs.Told.{Told}
 use Rattle.store.specs.Table.{callOf}
 use Rattle.store.proofs.History.{since, roomed, rowless, matched}
 use Rattle.store.proofs.store.Store.call.Needs as need

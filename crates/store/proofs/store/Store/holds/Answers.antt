@@ -1,4 +1,4 @@
-use mathlib.Core.Path.{_≡_, sym, _∙_}
+use mathlib.Core.Path.{sym, _∙_}
 use native.Mathlib.Omega.{arith}
 use Rattle.store.proofs.Offering.{look-more, look-stop, look-end}
 use Rattle.store.proofs.store.Store.holds.Needs as need

@@ -1,14 +1,14 @@
 use mathlib.Core.Path.{_≡_, refl, sym, ap, _∙_}
 use mathlib.Core.List.{[]}
-use Prim.Native.Nat.{ℕ, _≤_, _<_}
+use Prim.Native.Nat.{_≤_, _<_}
 use native.Mathlib.Omega.{arith}
 use lib.ListN.{length, getD}
 use Rattle.std.proofs.shelf.Lists.{length-map}
 use Rattle.placement.specs.Blocks.{copiesOf}
-use Rattle.placement.specs.Lists.{blocksOf, listsOf, nodesOf}
+use Rattle.placement.specs.Lists.{blocksOf}
 use Rattle.store.specs.declared.types.Answer.the-variants.{Done}
 use Rattle.store.specs.Stripes as led
-use Rattle.store.specs.Table.{heldsOf, stripeOf, ledgerOf}
+use Rattle.store.specs.Table.{heldsOf, stripeOf}
 use Rattle.store.proofs.Held.{stripe-at, helds-length}
 use Rattle.store.proofs.Fits.{fits-put, allowed-sealed, filling-few}
 use Rattle.store.proofs.Tells.{told-done, put-done}

@@ -1,5 +1,5 @@
 use native.Mathlib.Omega.{arith}
-use Rattle.store.proofs.Coded.{set-up-outside, set-up-short, set-up-told}
+use Rattle.store.proofs.Coded.{set-up-told}
 use Rattle.store.proofs.Fits.{fits-code}
 use Rattle.store.proofs.store.Store.set_up.Needs as need
 
