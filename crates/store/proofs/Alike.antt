@@ -137,35 +137,35 @@ module _ (s : Site) (l : Ledger) (r r′ : Result Answer Refusal) (b a b′ a′
   word-by : (q : Call) (t : Option Code) → l .code ≡ t → Keeps s l q r b a → Keeps s l q r′ b′ a′ → refusedBy s l q ≡ Some 24 → w ≡ w′
   word-by q None c k k′ e = absurd (fresh-not q (sym (uncoded s l q (first (fresh s q)) c refl) ∙ e))
     where
-    fresh-not : (q : Call) → first (fresh s q) ≡ Some 24 → ⊥
-    fresh-not (set-up n k c) e = absent (fresh s (set-up n k c)) 24 refl e
-    fresh-not (offer b vs) e = absent (fresh s (offer b vs)) 24 refl e
-    fresh-not (seal r v) e = absent (fresh s (seal r v)) 24 refl e
-    fresh-not (plan r rows) e = absent (fresh s (plan r rows)) 24 refl e
-    fresh-not (deletions r rows) e = absent (fresh s (deletions r rows)) 24 refl e
-    fresh-not (standing r vs w) e = absent (fresh s (standing r vs w)) 24 refl e
-    fresh-not (release r) e = absent (fresh s (release r)) 24 refl e
-    fresh-not (abandon r) e = absent (fresh s (abandon r)) 24 refl e
+      fresh-not : (q : Call) → first (fresh s q) ≡ Some 24 → ⊥
+      fresh-not (set-up n k c) e = absent (fresh s (set-up n k c)) 24 refl e
+      fresh-not (offer b vs) e = absent (fresh s (offer b vs)) 24 refl e
+      fresh-not (seal r v) e = absent (fresh s (seal r v)) 24 refl e
+      fresh-not (plan r rows) e = absent (fresh s (plan r rows)) 24 refl e
+      fresh-not (deletions r rows) e = absent (fresh s (deletions r rows)) 24 refl e
+      fresh-not (standing r vs w) e = absent (fresh s (standing r vs w)) 24 refl e
+      fresh-not (release r) e = absent (fresh s (release r)) 24 refl e
+      fresh-not (abandon r) e = absent (fresh s (abandon r)) 24 refl e
   word-by q (Some o) c k k′ e = at q k k′ (sym (coded s l q o (first (checks s o l q)) c refl) ∙ e)
     where
-    at : (q : Call) → Keeps s l q r b a → Keeps s l q r′ b′ a′ → first (checks s o l q) ≡ Some 24 → w ≡ w′
-    at (set-up n k c) k1 k2 e = absurd (absent (checks s o l (set-up n k c)) 24 refl e)
-    at (offer x vs) k1 k2 e =
-        let d = due-at s o l x vs e in
-        let no-choice : (us : List ℕ) → Choice s (o .c) (together s l vs) us → ⊥ = λ us h. empty-none s (o .c) (together s l vs) (d .1) us h in
-        let m = k1 o c .names x vs refl (d .0) no-choice in
-        let n = k2 o c .names x vs refl (d .0) no-choice in
-        let m-is = m .1 in
-        let n-is = n .1 in
-        let e1 : w ≡ m .0 = cc in
-        let e2 : w′ ≡ n .0 = cc in
-        e1 ∙ (least-one s (o .c) (together s l vs) (m .0) (n .0) (m .2) (n .2) ∙ sym e2)
-    at (seal x v) k1 k2 e = absurd (absent (checks s o l (seal x v)) 24 refl e)
-    at (plan x rows) k1 k2 e = absurd (absent (checks s o l (plan x rows)) 24 refl e)
-    at (deletions x rows) k1 k2 e = absurd (absent (checks s o l (deletions x rows)) 24 refl e)
-    at (standing x vs u) k1 k2 e = absurd (absent (checks s o l (standing x vs u)) 24 refl e)
-    at (release x) k1 k2 e = absurd (absent (checks s o l (release x)) 24 refl e)
-    at (abandon x) k1 k2 e = absurd (absent (checks s o l (abandon x)) 24 refl e)
+      at : (q : Call) → Keeps s l q r b a → Keeps s l q r′ b′ a′ → first (checks s o l q) ≡ Some 24 → w ≡ w′
+      at (set-up n k c) k1 k2 e = absurd (absent (checks s o l (set-up n k c)) 24 refl e)
+      at (offer x vs) k1 k2 e =
+          let d = due-at s o l x vs e in
+          let no-choice : (us : List ℕ) → Choice s (o .c) (together s l vs) us → ⊥ = λ us h. empty-none s (o .c) (together s l vs) (d .1) us h in
+          let m = k1 o c .names x vs refl (d .0) no-choice in
+          let n = k2 o c .names x vs refl (d .0) no-choice in
+          let m-is = m .1 in
+          let n-is = n .1 in
+          let e1 : w ≡ m .0 = cc in
+          let e2 : w′ ≡ n .0 = cc in
+          e1 ∙ (least-one s (o .c) (together s l vs) (m .0) (n .0) (m .2) (n .2) ∙ sym e2)
+      at (seal x v) k1 k2 e = absurd (absent (checks s o l (seal x v)) 24 refl e)
+      at (plan x rows) k1 k2 e = absurd (absent (checks s o l (plan x rows)) 24 refl e)
+      at (deletions x rows) k1 k2 e = absurd (absent (checks s o l (deletions x rows)) 24 refl e)
+      at (standing x vs u) k1 k2 e = absurd (absent (checks s o l (standing x vs u)) 24 refl e)
+      at (release x) k1 k2 e = absurd (absent (checks s o l (release x)) 24 refl e)
+      at (abandon x) k1 k2 e = absurd (absent (checks s o l (abandon x)) 24 refl e)
 
 module _ (s : Site) (l : Ledger) (q : Call) (r r′ : Result Answer Refusal) (b a b′ a′ : List Row)
     (x : Answered s l q r b a) (y : Answered s l q r′ b′ a′) (k : Keeps s l q r b a) (k′ : Keeps s l q r′ b′ a′) where
@@ -178,13 +178,13 @@ module _ (s : Site) (l : Ledger) (q : Call) (r r′ : Result Answer Refusal) (b 
       let g = v .0 in
       let number : numberOf f ≡ numberOf g = u .2 ∙ sym (v .2) in
       let word : wordOf f ≡ wordOf g =
-        ⊎-elim
-          (λ same.
-            let m = only-word f (u .2 ∙ same) in
-            let p = only-word g (v .2 ∙ same) in
-            ap wordOf (m .1) ∙ (word-by s l r r′ b a b′ a′ (m .0) (p .0) (u .1 ∙ ap Err (m .1)) (v .1 ∙ ap Err (p .1)) q (l .code) refl k k′ (e ∙ ap Some same) ∙ sym (ap wordOf (p .1))))
-          (λ ne. wordless f (λ z. ne (sym (u .2) ∙ z)) ∙ sym (wordless g (λ z. ne (sym (v .2) ∙ z))))
-          (cases-eq n 24) in
+      ⊎-elim
+      (λ same.
+      let m = only-word f (u .2 ∙ same) in
+      let p = only-word g (v .2 ∙ same) in
+      ap wordOf (m .1) ∙ (word-by s l r r′ b a b′ a′ (m .0) (p .0) (u .1 ∙ ap Err (m .1)) (v .1 ∙ ap Err (p .1)) q (l .code) refl k k′ (e ∙ ap Some same) ∙ sym (ap wordOf (p .1))))
+      (λ ne. wordless f (λ z. ne (sym (u .2) ∙ z)) ∙ sym (wordless g (λ z. ne (sym (v .2) ∙ z))))
+      (cases-eq n 24) in
       u .1 ∙ (ap Err (refusal-is f ∙ (ap (λ n. refusalOf n (wordOf f)) number ∙ (ap (refusalOf (numberOf g)) word ∙ sym (refusal-is g)))) ∙ sym (v .1))
 
   pub one-answer : r ≡ r′

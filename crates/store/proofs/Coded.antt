@@ -69,4 +69,4 @@ module _ {M : Type 0} (s : Site) (st : Store M) (n k c : ℕ) (new : st .code �
       let noted : led.Code → led.Ledger = λ x. record { code = Some x; stripes = map stripeOf (st .stripes) } in
       let same : ruled o ≡ record { n = n; k = k; c = c } = ap (λ x. record { n = x; k = o .k; c = o .c }) a ∙ (ap (λ x. record { n = n; k = x; c = o .c }) b ∙ ap (λ x. record { n = n; k = k; c = x }) d) in
       told-done s st (led.set-up n k c) [] (record { map = st .map; code = Some o; stripes = st .stripes; full = f; within = q }) Done [] none refl (λ _. refl)
-        (ap noted same ∙ sym (step-coded s (ledgerOf st) (led.set-up n k c) none fresh-none)) refl
+      (ap noted same ∙ sym (step-coded s (ledgerOf st) (led.set-up n k c) none fresh-none)) refl

@@ -49,11 +49,11 @@ kept-one : (v : ℕ) (xs : List ℕ) → has v xs ≡ true → length (kept-by (
 kept-one v [] e = absurd (false≢true e)
 kept-one v (x ∷ xs) e =
     ⊎-elim
-      (λ same. let t = eq-eqb x v same in rw t (omega (arith, kept-less v xs)))
-      (λ ne. let t = ne-eqb x v ne in let u : eqb v x ≡ false = ne-eqb v x (λ q. ne (sym q)) in let h : has v xs ≡ true = ap (λ b. b || has v xs) (sym u) ∙ e in
-        rw t (omega (arith, kept-one v xs h, some-in v xs h)))
-      (cases-eq x v)
-    where
+    (λ same. let t = eq-eqb x v same in rw t (omega (arith, kept-less v xs)))
+    (λ ne. let t = ne-eqb x v ne in let u : eqb v x ≡ false = ne-eqb v x (λ q. ne (sym q)) in let h : has v xs ≡ true = ap (λ b. b || has v xs) (sym u) ∙ e in
+    rw t (omega (arith, kept-one v xs h, some-in v xs h)))
+    (cases-eq x v)
+  where
     some-in : (v : ℕ) (xs : List ℕ) → has v xs ≡ true → 1 ≤ length xs
     some-in v [] e = absurd (false≢true e)
     some-in v (x ∷ xs) e = omega arith
@@ -115,7 +115,7 @@ module _ (s : Site) (limits : Limits s) (l : Ledger) (sound : Sound s l) where
   plan-fits o r room c e =
       let m = unmet (checks s o l (plan r room)) (sym (coded s l (plan r room) o (first (checks s o l (plan r room))) c refl) ∙ e) in
       by (stripe l r) refl (not-false _ (m .1 .0)) (ltb-false room (o .n) (m .1 .1 .0))
-      where
+    where
       by : (x : Stripe) → stripe l r ≡ x → isSealed x ≡ true → o .n ≤ room → length (planRows s (blocksOf (stripe l r)) (planOf (stripe l r))) ≤ room
       by empty f t h = absurd (false≢true t)
       by (filling bs) f t h = absurd (false≢true t)
@@ -125,7 +125,7 @@ module _ (s : Site) (limits : Limits s) (l : Ledger) (sound : Sound s l) where
   gone-fits-at o r room c e =
       let m = unmet (checks s o l (deletions r room)) (sym (coded s l (deletions r room) o (first (checks s o l (deletions r room))) c refl) ∙ e) in
       by (stripe l r) refl (not-false _ (m .1 .0)) (ltb-false room (sumBy (λ b. length (b .copies) - 1) (blocksOf (stripe l r))) (m .1 .1 .0))
-      where
+    where
       by : (x : Stripe) → stripe l r ≡ x → isSealed x ≡ true → sumBy (λ b. length (b .copies) - 1) (blocksOf (stripe l r)) ≤ room → length (goneRows s (blocksOf (stripe l r)) (planOf (stripe l r))) ≤ room
       by empty f t h = absurd (false≢true t)
       by (filling bs) f t h = absurd (false≢true t)

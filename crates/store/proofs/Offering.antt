@@ -60,16 +60,15 @@ look-end ss b i h = rw (drop-all i ss h)
 
 -- the checks of an offer, each where those before it are passed
 module _ {M : Type 0} (s : Site) (st : Store M) (b : ℕ) (vs : Copies) (o : Code) (c : st .code ≡ Some o) where
-
   refused : (e : Refusal) → first (checks s (ruled o) (ledgerOf st) (led.offer b vs)) ≡ Some (numberOf e) → Named s (ledgerOf st) (led.offer b vs) (Err e) → Told s st st (led.offer b vs) (Err e) [] []
   refused e m n = told-refusal s st (led.offer b vs) [] e (coded s (ledgerOf st) (led.offer b vs) (ruled o) (Some (numberOf e)) (code-some st o c) m) n
 
   pub offer-length : ((2 ≤ length vs) × (length vs ≤ 8) → ⊥) → Told s st st (led.offer b vs) (Err ListLength) [] []
   offer-length ne =
       let a3 : (ltb (length vs) 2 || ltb 8 (length vs)) ≡ true =
-        ⊎-elim (λ h. or-left (ltb (length vs) 2) (ltb 8 (length vs)) (lt-ltb (length vs) 2 h))
-          (λ h. ⊎-elim (λ k. or-right (ltb (length vs) 2) (ltb 8 (length vs)) (lt-ltb 8 (length vs) k)) (λ k. absurd (ne (h, k))) (cases-lt 8 (length vs)))
-          (cases-lt (length vs) 2) in
+      ⊎-elim (λ h. or-left (ltb (length vs) 2) (ltb 8 (length vs)) (lt-ltb (length vs) 2 h))
+      (λ h. ⊎-elim (λ k. or-right (ltb (length vs) 2) (ltb 8 (length vs)) (lt-ltb 8 (length vs) k)) (λ k. absurd (ne (h, k))) (cases-lt 8 (length vs)))
+      (cases-lt (length vs) 2) in
       refused ListLength (rw a3 refl) (unnamed s (ledgerOf st) (led.offer b vs) _ refl)
 
   module _ (enough : 2 ≤ length vs) (few : length vs ≤ 8) where
@@ -108,15 +107,15 @@ module _ {M : Type 0} (s : Site) (st : Store M) (b : ℕ) (vs : Copies) (o : Cod
               pub offer-tried : (r : ℕ) (x : led.Block) (after : Store M) (res : Result Answer Refusal) → r ≡ led.core s vs → x ≡ record { number = b; copies = vs } → Tried s (o .c) r x st after res → Told s st after (led.offer b vs) res [] []
               offer-tried r x after res er ex t = tried res (subst (λ y. Tried s (o .c) (led.core s vs) y st after res) ex (subst (λ y. Tried s (o .c) y x st after res) er t))
                 where
-                tried : (res : Result Answer Refusal) → Tried s (o .c) (led.core s vs) (record { number = b; copies = vs }) st after res → Told s st after (led.offer b vs) res [] []
-                tried (Ok a) t =
-                    let no = something (choices s (o .c) (led.copiesOf (led.blocksOf (led.stripe (ledgerOf st) (led.core s vs))) ++ (vs ∷ []))) (t .0) in
-                    let pass = coded s (ledgerOf st) (led.offer b vs) (ruled o) None (code-some st o c) (last None (rw no refl)) in
-                    told-done s st (led.offer b vs) [] after a [] pass (t .1) (λ _. refl) (t .2 ∙ sym (step-noted s (ledgerOf st) (led.offer b vs) (ruled o) pass (code-some st o c))) (t .3)
-                tried (Err e) t =
-                    let yes = nothing (choices s (o .c) (led.copiesOf (led.blocksOf (led.stripe (ledgerOf st) (led.core s vs))) ++ (vs ∷ []))) (t .0) in
-                    let met : first (checks s (ruled o) (ledgerOf st) (led.offer b vs)) ≡ Some (numberOf e) = last (Some 24) (rw yes refl) ∙ ap (λ q. Some (numberOf q)) (sym (t .1 .1)) in
-                    let named : Named s (ledgerOf st) (led.offer b vs) (Err e) = λ u b′ vs′ w cu ec er h.
+                  tried : (res : Result Answer Refusal) → Tried s (o .c) (led.core s vs) (record { number = b; copies = vs }) st after res → Told s st after (led.offer b vs) res [] []
+                  tried (Ok a) t =
+                      let no = something (choices s (o .c) (led.copiesOf (led.blocksOf (led.stripe (ledgerOf st) (led.core s vs))) ++ (vs ∷ []))) (t .0) in
+                      let pass = coded s (ledgerOf st) (led.offer b vs) (ruled o) None (code-some st o c) (last None (rw no refl)) in
+                      told-done s st (led.offer b vs) [] after a [] pass (t .1) (λ _. refl) (t .2 ∙ sym (step-noted s (ledgerOf st) (led.offer b vs) (ruled o) pass (code-some st o c))) (t .3)
+                  tried (Err e) t =
+                      let yes = nothing (choices s (o .c) (led.copiesOf (led.blocksOf (led.stripe (ledgerOf st) (led.core s vs))) ++ (vs ∷ []))) (t .0) in
+                      let met : first (checks s (ruled o) (ledgerOf st) (led.offer b vs)) ≡ Some (numberOf e) = last (Some 24) (rw yes refl) ∙ ap (λ q. Some (numberOf q)) (sym (t .1 .1)) in
+                      let named : Named s (ledgerOf st) (led.offer b vs) (Err e) = λ u b′ vs′ w cu ec er h.
                       let same-code = code-some st o c in
                       let eu : ruled o ≡ u = cc in
                       let ev : vs ≡ vs′ = cc in
@@ -124,7 +123,7 @@ module _ {M : Type 0} (s : Site) (st : Store M) (b : ℕ) (vs : Copies) (o : Cod
                       let ew : t .1 .0 ≡ w = cc in
                       let P : led.Code → Copies → ℕ → Type 0 = λ u v w. (choices s (u .c) (led.copiesOf (led.blocksOf (led.stripe (ledgerOf st) (led.core s v)))) ≡ [] → ⊥) → LeastTight s (u .c) (together s (ledgerOf st) v) w in
                       subst (λ y. P u vs′ y) ew (subst (λ y. P u y (t .1 .0)) ev (subst (λ y. P y vs (t .1 .0)) eu (t .1 .2))) h in
-                    subst (λ y. Told s st y (led.offer b vs) (Err e) [] []) (sym (t .2)) (refused e met named)
+                      subst (λ y. Told s st y (led.offer b vs) (Err e) [] []) (sym (t .2)) (refused e met named)
 
 -- where the list of choices is not empty, there is a choice
 pub some-choice : (s : Site) (c : ℕ) (bs : List Copies) → (choices s c bs ≡ [] → ⊥) → Some-choice s c bs
@@ -144,10 +143,11 @@ module _ {M : Type 0} (s : Site) (st : Store M) (r : ℕ) (d : Stripe) (near : r
 
   pub tried-no : (c : ℕ) (b : code.Block) (w : ℕ) → choices s c (list.listsOf bs ++ told.copiesOf b ∷ []) ≡ [] → Crowded-out s c (list.listsOf bs) (told.copiesOf b) w → Tried s c r (heldOf b) st st (Err (NoChoice w))
   tried-no c b w e k =
-      let lists : led.copiesOf (led.blocksOf (led.stripe (ledgerOf st) r)) ≡ list.listsOf bs = ap led.copiesOf (sym own-is) ∙ helds-lists bs in
-      (ap (choices s c) (own-lists b) ∙ e,
-       (w, refl, λ h. subst (λ l. LeastTight s c l w) (sym (own-lists b)) (k .1 (some-choice s c (list.listsOf bs) (λ z. h (ap (choices s c) lists ∙ z))))),
-       refl)
+      let lists : led.copiesOf (led.blocksOf (led.stripe (ledgerOf st) r)) ≡ list.listsOf bs = ap led.copiesOf (sym own-is) ∙ helds-lists bs in (
+        ap (choices s c) (own-lists b) ∙ e,
+        (w, refl, λ h. subst (λ l. LeastTight s c l w) (sym (own-lists b)) (k .1 (some-choice s c (list.listsOf bs) (λ z. h (ap (choices s c) lists ∙ z))))),
+        refl,
+      )
 
   pub tried-choice : (c : ℕ) (b : code.Block) → (choices s c (list.listsOf bs ++ told.copiesOf b ∷ []) ≡ [] → ⊥) → choices s c (led.copiesOf (led.blocksOf (led.stripe (ledgerOf st) r)) ++ heldOf b .copies ∷ []) ≡ [] → ⊥
   tried-choice c b ne e = ne (ap (choices s c) (sym (own-lists b)) ∙ e)

@@ -90,8 +90,8 @@ module _ {M : Type 0} (s : Site) (st : Store M) (r : ℕ) (d : Stripe) (o : Code
         let rowsOf : led.Stripe → List Line = λ x. planRows s (led.blocksOf x) (led.planOf x) in
         let same : planRows s (heldsOf bs) (nodesOf p) ≡ rowsOf (led.stripe (ledgerOf st) r) = ap rowsOf (sym is) in
         told-done s st call rows st (Rows n) new none (ap Rows (m ∙ ap length same))
-          (λ room. w (omega (arith, room, m, ap length same)) ∙ (ap (λ j. planRows s (heldsOf bs) (nodesOf p) ++ j) (ap (λ j. drop j (lines rows)) (m ∙ ap length same) ∙ drop-map shown (length (rowsOf (led.stripe (ledgerOf st) r))) rows) ∙ ap (λ l. l ++ map shown (drop (length (rowsOf (led.stripe (ledgerOf st) r))) rows)) same))
-          (sym (step-noted s (ledgerOf st) call (ruled o) none (code-some st o c))) refl
+        (λ room. w (omega (arith, room, m, ap length same)) ∙ (ap (λ j. planRows s (heldsOf bs) (nodesOf p) ++ j) (ap (λ j. drop j (lines rows)) (m ∙ ap length same) ∙ drop-map shown (length (rowsOf (led.stripe (ledgerOf st) r))) rows) ∙ ap (λ l. l ++ map shown (drop (length (rowsOf (led.stripe (ledgerOf st) r))) rows)) same))
+        (sym (step-noted s (ledgerOf st) call (ruled o) none (code-some st o c))) refl
 
     pub deletions-short : (rows : List Row) → length rows < sumBy (λ b. length (b .copies) - 1) (heldsOf bs) → Told s st st (led.deletions r (length rows)) (Err FewRows) rows rows
     deletions-short rows h =
@@ -112,8 +112,8 @@ module _ {M : Type 0} (s : Site) (st : Store M) (r : ℕ) (d : Stripe) (o : Code
         let rowsOf : led.Stripe → List Line = λ x. goneRows s (led.blocksOf x) (led.planOf x) in
         let same : goneRows s (heldsOf bs) (nodesOf p) ≡ rowsOf (led.stripe (ledgerOf st) r) = ap rowsOf (sym is) in
         told-done s st call rows st (Rows n) new none (ap Rows (m ∙ ap length same))
-          (λ room. w (omega (arith, room, m, ap length same)) ∙ (ap (λ j. goneRows s (heldsOf bs) (nodesOf p) ++ j) (ap (λ j. drop j (lines rows)) (m ∙ ap length same) ∙ drop-map shown (length (rowsOf (led.stripe (ledgerOf st) r))) rows) ∙ ap (λ l. l ++ map shown (drop (length (rowsOf (led.stripe (ledgerOf st) r))) rows)) same))
-          (sym (step-noted s (ledgerOf st) call (ruled o) none (code-some st o c))) refl
+        (λ room. w (omega (arith, room, m, ap length same)) ∙ (ap (λ j. goneRows s (heldsOf bs) (nodesOf p) ++ j) (ap (λ j. drop j (lines rows)) (m ∙ ap length same) ∙ drop-map shown (length (rowsOf (led.stripe (ledgerOf st) r))) rows) ∙ ap (λ l. l ++ map shown (drop (length (rowsOf (led.stripe (ledgerOf st) r))) rows)) same))
+        (sym (step-noted s (ledgerOf st) call (ruled o) none (code-some st o c))) refl
 
     pub standing-told : (lost : List ℕ) (w n : ℕ) → every (onMap s) lost ≡ true → n ≡ stand s (nodesOf p) lost w → Told s st st (led.standing r lost w) (Ok (Standing n)) [] []
     standing-told lost w n m e′ =
@@ -122,4 +122,4 @@ module _ {M : Type 0} (s : Site) (st : Store M) (r : ℕ) (d : Stripe) (o : Code
         let b = shut in
         let none = coded s (ledgerOf st) call (ruled o) None (code-some st o c) (rw (a, m, b) refl) in
         told-done s st call [] st (Standing n) [] none (ap Standing (e′ ∙ ap (λ x. stand s (led.planOf x) lost w) (sym is))) (λ _. refl)
-          (sym (step-noted s (ledgerOf st) call (ruled o) none (code-some st o c))) refl
+        (sym (step-noted s (ledgerOf st) call (ruled o) none (code-some st o c))) refl

@@ -45,15 +45,15 @@ module _ (s : Site) (room : ℕ) (cs : List Call) (i : ℕ) (h : i < length cs) 
   pub run-more : (rs : List (Result Answer Refusal)) (r : Result Answer Refusal) (l : Ledger) (before after : List Row) → Sofar s room cs i rs → Since s (take i cs) q l r before after → length before ≡ room → Sofar s room cs (i + 1) (set rs i r)
   run-more rs r l before after f t n j q′ r′ k e g =
       ⊎-elim
-        (λ same.
-          let call-is : nth cs i ≡ Some q = nth-getD cs i q h ∙ ap Some is in
-          let e′ : nth cs i ≡ Some q′ = ap (nth cs) (sym same) ∙ e in
-          let eq : q ≡ q′ = cc in
-          let er : r ≡ r′ = nth-same rs i r r′ (ap (nth (set rs i r)) (sym same) ∙ g) in
-          let here : AnsweredAfter s room (take i cs) q r = (before, after, n, t .answered, t .promised) in
-          subst (λ x. AnsweredAfter s room (take x cs) q′ r′) (sym same) (subst (λ x. AnsweredAfter s room (take i cs) q′ x) er (subst (λ x. AnsweredAfter s room (take i cs) x r) eq here)))
-        (λ ne. f j q′ r′ (omega arith) e (sym (nth-other rs i j r ne) ∙ g))
-        (cases-eq j i)
+      (λ same.
+      let call-is : nth cs i ≡ Some q = nth-getD cs i q h ∙ ap Some is in
+      let e′ : nth cs i ≡ Some q′ = ap (nth cs) (sym same) ∙ e in
+      let eq : q ≡ q′ = cc in
+      let er : r ≡ r′ = nth-same rs i r r′ (ap (nth (set rs i r)) (sym same) ∙ g) in
+      let here : AnsweredAfter s room (take i cs) q r = (before, after, n, t .answered, t .promised) in
+      subst (λ x. AnsweredAfter s room (take x cs) q′ r′) (sym same) (subst (λ x. AnsweredAfter s room (take i cs) q′ x) er (subst (λ x. AnsweredAfter s room (take i cs) x r) eq here)))
+      (λ ne. f j q′ r′ (omega arith) e (sym (nth-other rs i j r ne) ∙ g))
+      (cases-eq j i)
 
 pub past-more : {X : Type 0} (i : ℕ) (old rs : List X) (y : X) → drop i rs ≡ drop i old → drop (i + 1) (set rs i y) ≡ drop (i + 1) old
 past-more i old rs y e = drop-set-lt (i + 1) rs i y (omega arith) ∙ (sym (drop-drop 1 i rs) ∙ (ap (drop 1) e ∙ drop-drop 1 i old))

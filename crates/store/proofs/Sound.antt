@@ -146,12 +146,14 @@ module _ (s : Site) where
         let sx : StripeSound s o x = all-or (StripeSound s o) (l .stripes) r empty tt h in
         let new : Block = record { number = b; copies = vs } in
         let long = length-push own new in
-        put-sound o l r (filling (own ++ new ∷ [])) e n q h
-          (omega (arith, long), record {
+        put-sound o l r (filling (own ++ new ∷ [])) e n q h (
+          omega (arith, long),
+          record {
             few = omega (arith, long, f .1);
             formed = all-push (λ b. WellFormed s (b .copies)) own new (formed-of o x sx) (f .0);
             choice = λ z. f .2 (ap (choices s (o .c)) (sym (map-push (λ y. y .copies) own new)) ∙ z);
-          })
+          },
+        )
     sound-noted o (seal r v) e q h all e′ =
         let a7 = unmet (checks s o l (seal r v)) e′ in
         let a4 = a7 .1 in

@@ -47,7 +47,7 @@ plan-push s [] p v =
 plan-push s (b ∷ bs) [] v = ap (λ l. (0, b .number, v, rackOf s v) ∷ l) (ap (λ l. l ++ parityRows s 1 (drop (length bs) [])) (data-none s bs) ∙ ap (parityRows s 1) (drop-none (length bs)))
 plan-push s (b ∷ bs) (u ∷ p) v =
     ap (λ l. (0, b .number, u, rackOf s u) ∷ l) (plan-push s bs p v ∙ ap (λ x. planRows s bs p ++ x ∷ []) (row-next (nth bs (length p))))
-    where
+  where
     row-next : (o : Option Block) → elim o as (λ _. Line) [ Some a ↦ (0, a .number, v, rackOf s v) | None ↦ (1, length p - length bs + 1, v, rackOf s v) ] ≡ elim o as (λ _. Line) [ Some a ↦ (0, a .number, v, rackOf s v) | None ↦ (1, suc (length p) - suc (length bs) + 1, v, rackOf s v) ]
     row-next (Some a) = refl
     row-next None = let e : length p - length bs + 1 ≡ suc (length p) - suc (length bs) + 1 = omega arith in ap (λ i. (1, i, v, rackOf s v)) e
@@ -140,7 +140,7 @@ plan-more s bs p old rows i row h k e f =
     let n : length (take i p) ≡ i = length-take-le i p (omega arith) in
     let w = planRows s bs (take i p) in
     lines-put rows i row ∙ (ap (λ l. set l i (shown row)) f ∙ (put-more w (lines old) i (shown row) (plan-length s bs (take i p) ∙ n) (omega (arith, length-map old shown))
-      ∙ ap (λ l. l ++ drop (i + 1) (lines old)) (ap (λ x. w ++ x ∷ []) (e ∙ ap (λ j. planRow s bs j (getD p i 0)) (sym n)) ∙ (sym (plan-push s bs (take i p) (getD p i 0)) ∙ ap (planRows s bs) (sym (take-more p i 0 h))))))
+    ∙ ap (λ l. l ++ drop (i + 1) (lines old)) (ap (λ x. w ++ x ∷ []) (e ∙ ap (λ j. planRow s bs j (getD p i 0)) (sym n)) ∙ (sym (plan-push s bs (take i p) (getD p i 0)) ∙ ap (planRows s bs) (sym (take-more p i 0 h))))))
 
 pub folded-map : {X Y Z : Type 0} (f : Z → Y → Z) (h : X → Y) (a : Z) (xs : List X) → folded f a (map h xs) ≡ folded (λ z x. f z (h x)) a xs
 folded-map f h a [] = refl
@@ -200,7 +200,7 @@ pub gone-more : (P G old rows : List Line) (at end : ℕ) → length P ≡ at �
 gone-more P G old rows at end a e f =
     let front : take at rows ≡ P = ap (take at) f ∙ take-at P (drop at old) at a in
     let back : drop end rows ≡ drop end old =
-      ap (λ k. drop k rows) e ∙ (sym (drop-drop (length G) at rows) ∙ (ap (drop (length G)) (ap (drop at) f ∙ drop-at P (drop at old) at a) ∙ (drop-drop (length G) at old ∙ ap (λ k. drop k old) (sym e)))) in
+    ap (λ k. drop k rows) e ∙ (sym (drop-drop (length G) at rows) ∙ (ap (drop (length G)) (ap (drop at) f ∙ drop-at P (drop at old) at a) ∙ (drop-drop (length G) at old ∙ ap (λ k. drop k old) (sym e)))) in
     ap (λ l. l ++ (G ++ drop end rows)) front ∙ (ap (λ l. P ++ (G ++ l)) back ∙ sym (append-assoc P G (drop end old)))
 
 -- one more copy is looked at, and written unless it is the one that stays
@@ -210,9 +210,10 @@ module _ (s : Site) (number : ℕ) (copies : List ℕ) (v j : ℕ) (old rows : L
       → (end + 1 ≡ at + length (goneTo s number copies v (j + 1))) × (end + 1 ≤ length old → lines (set rows end row) ≡ take at (lines old) ++ (goneTo s number copies v (j + 1) ++ drop (end + 1) (lines old)))
   gone-put row x is ne row-is =
       let done = goneTo s number copies v j in
-      let same : goneTo s number copies v (j + 1) ≡ done ++ shown row ∷ [] = gone-more-yes s number copies v j h (λ q. ne (sym is ∙ q)) ∙ ap (λ y. done ++ (2, number, y, rackOf s y) ∷ []) is ∙ ap (λ y. done ++ y ∷ []) (sym row-is) in
-      (omega (arith, e, ap length same, length-push done (shown row)),
-       λ k. lines-put rows end row ∙ (ap (λ l. set l end (shown row)) (f (omega arith)) ∙ (put-after (take at (lines old)) done (lines old) at end (shown row) (length-take-le at (lines old) (omega (arith, e, length-map old shown))) e (omega (arith, length-map old shown)) ∙ ap (λ l. take at (lines old) ++ (l ++ drop (end + 1) (lines old))) (sym same))))
+      let same : goneTo s number copies v (j + 1) ≡ done ++ shown row ∷ [] = gone-more-yes s number copies v j h (λ q. ne (sym is ∙ q)) ∙ ap (λ y. done ++ (2, number, y, rackOf s y) ∷ []) is ∙ ap (λ y. done ++ y ∷ []) (sym row-is) in (
+        omega (arith, e, ap length same, length-push done (shown row)),
+        λ k. lines-put rows end row ∙ (ap (λ l. set l end (shown row)) (f (omega arith)) ∙ (put-after (take at (lines old)) done (lines old) at end (shown row) (length-take-le at (lines old) (omega (arith, e, length-map old shown))) e (omega (arith, length-map old shown)) ∙ ap (λ l. take at (lines old) ++ (l ++ drop (end + 1) (lines old))) (sym same))),
+      )
 
   pub gone-stay : getD copies j 0 ≡ v
       → (end ≡ at + length (goneTo s number copies v (j + 1))) × (end ≤ length old → lines rows ≡ take at (lines old) ++ (goneTo s number copies v (j + 1) ++ drop end (lines old)))

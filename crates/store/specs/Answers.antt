@@ -82,8 +82,9 @@ written s l (abandon r) = []
 -- the exact answer of a call at a ledger, with the caller's rows before and after
 abbrev pub Answered : Site → Ledger → Call → Result Answer Refusal → List Row → List Row → Type 0
 Answered s l call r before after = elim (refusedBy s l call) [
-    Some q ↦ ((e : Refusal) × (r ≡ Err e) × (numberOf e ≡ q)) × (after ≡ before)
-  | None ↦ (r ≡ Ok (accepted s l call)) × (map shown after ≡ written s l call ++ map shown (drop (length (written s l call)) before)) ]
+  | Some q ↦ ((e : Refusal) × (r ≡ Err e) × (numberOf e ≡ q)) × (after ≡ before)
+  | None ↦ (r ≡ Ok (accepted s l call)) × (map shown after ≡ written s l call ++ map shown (drop (length (written s l call)) before))
+]
 
 -- the same rows one by one: the plan's row for its node v at place i from 0, and the deletions of a block that keeps v
 abbrev pub planRow : Site → List Block → ℕ → ℕ → Line

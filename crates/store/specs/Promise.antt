@@ -45,20 +45,20 @@ together s l vs = copiesOf (blocksOf (stripe l (core s vs))) ++ (vs ∷ [])
 pub record Kept (s : Site) (o : Code) (l : Ledger) (call : Call) (r : Result Answer Refusal) (before after : List Row) : Type 0 where
   -- a well-formed new block for a stripe below k blocks is refused only where it leaves no choice
   pub admits : (b : ℕ) (vs : Copies) → call ≡ offer b vs → Due s o l b vs
-    → (us : List ℕ) → Choice s (o .c) (together s l vs) us → isOk r ≡ true
+      → (us : List ℕ) → Choice s (o .c) (together s l vs) us → isOk r ≡ true
   -- and where it leaves none, the refusal names the blocks that crowd it out
   pub names : (b : ℕ) (vs : Copies) → call ≡ offer b vs → Due s o l b vs
-    → ((us : List ℕ) → Choice s (o .c) (together s l vs) us → ⊥)
-    → (w : ℕ) × (r ≡ Err (NoChoice w)) × LeastTight s (o .c) (together s l vs) w
+      → ((us : List ℕ) → Choice s (o .c) (together s l vs) us → ⊥)
+      → (w : ℕ) × (r ≡ Err (NoChoice w)) × LeastTight s (o .c) (together s l vs) w
   -- an unsealed stripe of k blocks seals from every start node on the map
   pub seals : (rack v : ℕ) (bs : List Block) → call ≡ seal rack v → v < length s → stripe l rack ≡ filling bs → length bs ≡ o .k → r ≡ Ok Done
   -- a sealed stripe's plan is written where there are rows enough, and the rows past it stay
   pub writes : (rack : ℕ) (bs : List Block) (p : List ℕ) → call ≡ plan rack (length before) → stripe l rack ≡ sealed bs p → o .n ≤ length before
-    → (r ≡ Ok (Rows (o .n))) × (map shown after ≡ planRows s bs p ++ map shown (drop (o .n) before))
+      → (r ≡ Ok (Rows (o .n))) × (map shown after ≡ planRows s bs p ++ map shown (drop (o .n) before))
   -- whichever nodes and racks are lost within the code's margin, standing tells the plan's count, and at least k of the n planned blocks stand
   pub stands : (rack w : ℕ) (lost : List ℕ) (bs : List Block) (p : List ℕ) → call ≡ standing rack lost w → All (λ v. v < length s) lost → stripe l rack ≡ sealed bs p
-    → distinct s lost + o .c * ones w ≤ o .n - o .k
-    → (r ≡ Ok (Standing (stand s p lost w))) × (length p ≡ o .n) × (o .k ≤ stand s p lost w)
+      → distinct s lost + o .c * ones w ≤ o .n - o .k
+      → (r ≡ Ok (Standing (stand s p lost w))) × (length p ≡ o .n) × (o .k ≤ stand s p lost w)
 
 -- the whole promise, for a call made after any list of calls whose ledger has a code
 abbrev pub Promised : Site → List Call → Call → Result Answer Refusal → List Row → List Row → Type 0

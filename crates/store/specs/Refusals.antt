@@ -50,20 +50,20 @@ onMap s v = ltb v (length s)
 abbrev pub checks : Site → Code → Ledger → Call → List (Bool × ℕ)
 checks s o l (set-up n k c) = (true, 21) ∷ []
 checks s o l (offer b vs) =
-  let own = blocksOf (stripe l (core s vs)) in
-  (ltb (length vs) 2 || ltb 8 (length vs), 3)
-  ∷ (not (every (onMap s) vs), 4)
-  ∷ (not (apart vs), 5)
-  ∷ (not (every (λ v. not (eqb (rackOf s v) (core s vs))) (rest vs)), 6)
-  ∷ (holds (l .stripes) b, 22)
-  ∷ (leb (o .k) (length own), 23)
-  ∷ (none (choices s (o .c) (copiesOf own ++ (vs ∷ []))), 24)
-  ∷ []
+    let own = blocksOf (stripe l (core s vs)) in
+    (ltb (length vs) 2 || ltb 8 (length vs), 3)
+    ∷ (not (every (onMap s) vs), 4)
+    ∷ (not (apart vs), 5)
+    ∷ (not (every (λ v. not (eqb (rackOf s v) (core s vs))) (rest vs)), 6)
+    ∷ (holds (l .stripes) b, 22)
+    ∷ (leb (o .k) (length own), 23)
+    ∷ (none (choices s (o .c) (copiesOf own ++ (vs ∷ []))), 24)
+    ∷ []
 checks s o l (seal r v) = (ltb 31 r, 7) ∷ (not (onMap s v), 4) ∷ (isSealed (stripe l r), 26) ∷ (ltb (length (blocksOf (stripe l r))) (o .k), 25) ∷ []
 checks s o l (plan r rows) = (ltb 31 r, 7) ∷ (not (isSealed (stripe l r)), 27) ∷ (ltb rows (o .n), 29) ∷ []
 checks s o l (deletions r rows) =
-  (ltb 31 r, 7) ∷ (not (isSealed (stripe l r)), 27)
-  ∷ (ltb rows (sumBy (λ b. length (b .copies) - 1) (blocksOf (stripe l r))), 29) ∷ []
+    (ltb 31 r, 7) ∷ (not (isSealed (stripe l r)), 27)
+    ∷ (ltb rows (sumBy (λ b. length (b .copies) - 1) (blocksOf (stripe l r))), 29) ∷ []
 checks s o l (standing r vs w) = (ltb 31 r, 7) ∷ (not (every (onMap s) vs), 4) ∷ (not (isSealed (stripe l r)), 27) ∷ []
 checks s o l (release r) = (ltb 31 r, 7) ∷ (not (isSealed (stripe l r)), 27) ∷ []
 checks s o l (abandon r) = (ltb 31 r, 7) ∷ (isEmpty (stripe l r), 28) ∷ []

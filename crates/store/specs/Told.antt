@@ -28,14 +28,15 @@ use Rattle.store.specs.Table.{ledgerOf}
 -- a list of calls, a call that is not refused always has.
 abbrev pub Answering : Site → Ledger → Call → Result Answer Refusal → List Row → List Row → Type 0
 Answering s l call r before after = elim (refusedBy s l call) [
-    Some q ↦ ((e : Refusal) × (r ≡ Err e) × (numberOf e ≡ q)) × (after ≡ before)
+  | Some q ↦ ((e : Refusal) × (r ≡ Err e) × (numberOf e ≡ q)) × (after ≡ before)
   | None ↦ (r ≡ Ok (accepted s l call))
-    × (length (written s l call) ≤ length before → map shown after ≡ written s l call ++ map shown (drop (length (written s l call)) before)) ]
+      × (length (written s l call) ≤ length before → map shown after ≡ written s l call ++ map shown (drop (length (written s l call)) before))
+]
 
 -- the word of a refused offer is the set that crowds it out, where the stripe's own blocks have a choice
 abbrev pub Named : Site → Ledger → Call → Result Answer Refusal → Type 0
 Named s l call r = (o : Code) (b : ℕ) (vs : Copies) (w : ℕ) → l .code ≡ Some o → call ≡ offer b vs → r ≡ Err (NoChoice w)
-  → (choices s (o .c) (copiesOf (blocksOf (stripe l (core s vs)))) ≡ [] → ⊥) → LeastTight s (o .c) (together s l vs) w
+    → (choices s (o .c) (copiesOf (blocksOf (stripe l (core s vs)))) ≡ [] → ⊥) → LeastTight s (o .c) (together s l vs) w
 
 -- a call on the store before, with its result, the store after it, and the caller's rows before and after
 pub record Told {M : Type 0} (s : Site) (before after : Store M) (call : Call) (r : Result Answer Refusal) (old new : List Row) : Type 0 where
@@ -54,8 +55,8 @@ pub record Since (s : Site) (h : List Call) (call : Call) (after : Ledger) (r : 
 -- one more block for rack r's stripe, at most c in a rack: added where it leaves a choice, and otherwise refused with the set that crowds it out
 abbrev pub Tried : {M : Type 0} → Site → ℕ → ℕ → Block → Store M → Store M → Result Answer Refusal → Type 0
 Tried s c r b before after (Ok a) =
-  let own = blocksOf (stripe (ledgerOf before) r) in
-  (choices s c (copiesOf own ++ b .copies ∷ []) ≡ [] → ⊥) × (a ≡ Position (length own + 1)) × (ledgerOf after ≡ put (ledgerOf before) r (filling (own ++ b ∷ []))) × (after .map ≡ before .map)
+    let own = blocksOf (stripe (ledgerOf before) r) in
+    (choices s c (copiesOf own ++ b .copies ∷ []) ≡ [] → ⊥) × (a ≡ Position (length own + 1)) × (ledgerOf after ≡ put (ledgerOf before) r (filling (own ++ b ∷ []))) × (after .map ≡ before .map)
 Tried s c r b before after (Err e) =
-  let own = blocksOf (stripe (ledgerOf before) r) in
-  (choices s c (copiesOf own ++ b .copies ∷ []) ≡ []) × ((w : ℕ) × (e ≡ NoChoice w) × ((choices s c (copiesOf own) ≡ [] → ⊥) → LeastTight s c (copiesOf own ++ b .copies ∷ []) w)) × (after ≡ before)
+    let own = blocksOf (stripe (ledgerOf before) r) in
+    (choices s c (copiesOf own ++ b .copies ∷ []) ≡ []) × ((w : ℕ) × (e ≡ NoChoice w) × ((choices s c (copiesOf own) ≡ [] → ⊥) → LeastTight s c (copiesOf own ++ b .copies ∷ []) w)) × (after ≡ before)

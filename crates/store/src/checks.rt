@@ -85,12 +85,20 @@ pub(crate) fn bit_on(word: u32, rack: Rack) -> bool
 pub(crate) fn core_rack<M: SiteMap>(map: &M, nodes: &[Node]) -> Rack
     ensures { λ r. ⌜ r .0 ≡ core (meaning (now (map .entry))) (numbers (now (nodes .entry))) ⌝ }
 {
-    if nodes.len() > 0 { rack_of(map, nodes[0]) } else { Rack(RACKS) }
+    if nodes.len() > 0 {
+        rack_of(map, nodes[0])
+    } else {
+        Rack(RACKS)
+    }
 }
 
 /// Whether no node but the first lies in the rack.
 pub(crate) fn rest_outside<M: SiteMap>(map: &M, rack: Rack, nodes: &[Node]) -> bool
     ensures { λ r. ⌜ r ≡ every (λ v. not (eqb (rackOf (meaning (now (map .entry))) v) (rack .0))) (rest (numbers (now (nodes .entry)))) ⌝ }
 {
-    if nodes.len() > 0 { all_outside(map, rack, &nodes[1..]) } else { true }
+    if nodes.len() > 0 {
+        all_outside(map, rack, &nodes[1..])
+    } else {
+        true
+    }
 }

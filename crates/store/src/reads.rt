@@ -109,7 +109,12 @@ impl<M: SiteMap> Store<M> {
         match &self.stripes[rack.0 as usize] {
             Stripe::Empty => Err(Refusal::NotSealed),
             Stripe::Filling(_) => Err(Refusal::NotSealed),
-            Stripe::Sealed(_, planned) => Ok(Answer::Standing(count_standing(&self.map, planned, lost, racks))),
+            Stripe::Sealed(_, planned) => Ok(Answer::Standing(count_standing(
+                &self.map,
+                planned,
+                lost,
+                racks,
+            ))),
         }
     }
 }

@@ -20,7 +20,12 @@ use site::SiteMap;
 fn row_of<M: SiteMap>(map: &M, kind: Kind, number: u32, node: Node) -> Row
     ensures { λ r. ⌜ shown r ≡ (kindOf kind, number, node .0, rackOf (meaning (now (map .entry))) (node .0)) ⌝ }
 {
-    Row { kind, number, node, rack: rack_of(map, node) }
+    Row {
+        kind,
+        number,
+        node,
+        rack: rack_of(map, node),
+    }
 }
 
 // Writes a row where the caller has one at that place.
@@ -44,7 +49,12 @@ fn planned_row<M: SiteMap>(map: &M, blocks: &Blocks, node: Node, i: usize) -> Ro
 }
 
 /// Writes a plan's rows, and says how many there are.
-pub(crate) fn write_plan<M: SiteMap>(map: &M, blocks: &Blocks, plan: &Nodes, rows: &mut [Row]) -> usize
+pub(crate) fn write_plan<M: SiteMap>(
+    map: &M,
+    blocks: &Blocks,
+    plan: &Nodes,
+    rows: &mut [Row],
+) -> usize
     ensures count { λ r. ⌜ r ≡ length (planRows (meaning (now (map .entry))) (heldsOf (now (blocks .entry))) (nodesOf (now (plan .entry)))) ⌝ }
     ensures rows { λ r. ⌜ (r ≤ length (now (rows .entry)) → lines (now (rows .exit)) ≡ planRows (meaning (now (map .entry))) (heldsOf (now (blocks .entry))) (nodesOf (now (plan .entry))) ++ drop r (lines (now (rows .entry)))) ⌝ }
 {
@@ -66,7 +76,13 @@ pub(crate) fn spare_copies(blocks: &Blocks) -> usize
 }
 
 // Writes the deletions of one block from `at` on, and says where they end.
-fn write_gone_of<M: SiteMap>(map: &M, block: &Block, stays: Node, rows: &mut [Row], at: usize) -> usize
+fn write_gone_of<M: SiteMap>(
+    map: &M,
+    block: &Block,
+    stays: Node,
+    rows: &mut [Row],
+    at: usize,
+) -> usize
     requires { ⌜ at ≤ 1000 ⌝ }
     ensures end { λ r. ⌜ r ≡ at + length (goneOf (meaning (now (map .entry))) (heldOf (now (block .entry))) (stays .0)) ⌝ }
     ensures rows { λ r. ⌜ (r ≤ length (now (rows .entry)) → lines (now (rows .exit)) ≡ take at (lines (now (rows .entry))) ++ (goneOf (meaning (now (map .entry))) (heldOf (now (block .entry))) (stays .0) ++ drop r (lines (now (rows .entry))))) ⌝ }
@@ -82,7 +98,12 @@ fn write_gone_of<M: SiteMap>(map: &M, block: &Block, stays: Node, rows: &mut [Ro
 }
 
 /// Writes the rows of all copies that are not kept, and says how many there are.
-pub(crate) fn write_gone<M: SiteMap>(map: &M, blocks: &Blocks, plan: &Nodes, rows: &mut [Row]) -> usize
+pub(crate) fn write_gone<M: SiteMap>(
+    map: &M,
+    blocks: &Blocks,
+    plan: &Nodes,
+    rows: &mut [Row],
+) -> usize
     ensures count { λ r. ⌜ r ≡ length (goneRows (meaning (now (map .entry))) (heldsOf (now (blocks .entry))) (nodesOf (now (plan .entry)))) ⌝ }
     ensures rows { λ r. ⌜ (r ≤ length (now (rows .entry)) → lines (now (rows .exit)) ≡ goneRows (meaning (now (map .entry))) (heldsOf (now (blocks .entry))) (nodesOf (now (plan .entry))) ++ drop r (lines (now (rows .entry)))) ⌝ }
 {

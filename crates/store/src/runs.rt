@@ -23,7 +23,12 @@ fn note(answers: &mut [Result<Answer, Refusal>], at: usize, answer: Result<Answe
 /// Makes a store over a map, sends it the calls in their order, each with the same lent rows, and notes as many of the answers
 /// as there are places for. The store's ledger is that of the calls, and each answer is the one that the rules give at the ledger
 /// of the calls before it.
-pub fn run<M: SiteMap>(map: M, calls: &[Call<'_>], rows: &mut [Row], answers: &mut [Result<Answer, Refusal>]) -> Store<M>
+pub fn run<M: SiteMap>(
+    map: M,
+    calls: &[Call<'_>],
+    rows: &mut [Row],
+    answers: &mut [Result<Answer, Refusal>],
+) -> Store<M>
     ensures map { λ r. ⌜ r .map ≡ map ⌝ }
     ensures ledger { λ r. ⌜ ledgerOf r ≡ ledger (meaning map) (callsOf (now (calls .entry)) (length (now (rows .entry)))) ⌝ }
     ensures answers { λ r. ⌜ AllAnswered (meaning map) (length (now (rows .entry))) (callsOf (now (calls .entry)) (length (now (rows .entry)))) (now (answers .exit)) ⌝ }

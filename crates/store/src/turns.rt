@@ -18,7 +18,11 @@ impl<M: SiteMap> Store<M> {
         ensures map { λ r. ⌜ r .map ≡ map ⌝ }
         ensures ledger { λ r. ⌜ ledgerOf r ≡ start ⌝ }
     {
-        Store { map, code: None, stripes: [Stripe::Empty; 32] }
+        Store {
+            map,
+            code: None,
+            stripes: [Stripe::Empty; 32],
+        }
     }
 
     /// Empties a sealed stripe.

@@ -26,14 +26,36 @@ pub struct Row {
 /// A call, with its arguments as the caller gave them.
 #[derive(Clone, Copy)]
 pub enum Call<'a> {
-    SetUp { n: u32, k: u32, c: u32 },
-    Offer { block: u32, nodes: &'a [Node] },
-    Seal { rack: Rack, start: Node },
-    Plan { rack: Rack },
-    Deletions { rack: Rack },
-    Standing { rack: Rack, lost: &'a [Node], racks: u32 },
-    Release { rack: Rack },
-    Abandon { rack: Rack },
+    SetUp {
+        n: u32,
+        k: u32,
+        c: u32,
+    },
+    Offer {
+        block: u32,
+        nodes: &'a [Node],
+    },
+    Seal {
+        rack: Rack,
+        start: Node,
+    },
+    Plan {
+        rack: Rack,
+    },
+    Deletions {
+        rack: Rack,
+    },
+    Standing {
+        rack: Rack,
+        lost: &'a [Node],
+        racks: u32,
+    },
+    Release {
+        rack: Rack,
+    },
+    Abandon {
+        rack: Rack,
+    },
 }
 
 /// What an accepted call answers: nothing further, a block's position from 1 on, how many rows it wrote, or how many

@@ -28,8 +28,9 @@ loop-v-again g c =
     let m = count-more f p i (c .stands .result) h (c .stands .ensures ∙ ap f (sym (at .1))) in
     let old = c .loop-v .inv in
     elim (c .if-stands .came) [
-        then-stands w ↦ (let k : cond {A = ℕ} (c .stands .result) 1 0 ≡ 1 = ap (λ b. cond b 1 0) (w .if-stands .taken) in (omega (arith, w .count-is, old .0, m, k), omega (arith, w .count-is, old .1)))
-      | else-stands w ↦ (let k : cond {A = ℕ} (c .stands .result) 1 0 ≡ 0 = ap (λ b. cond b 1 0) (w .if-stands .left) in (omega (arith, w .count-is, old .0, m, k), omega (arith, w .count-is, old .1))) ]
+      | then-stands w ↦ (let k : cond {A = ℕ} (c .stands .result) 1 0 ≡ 1 = ap (λ b. cond b 1 0) (w .if-stands .taken) in (omega (arith, w .count-is, old .0, m, k), omega (arith, w .count-is, old .1)))
+      | else-stands w ↦ (let k : cond {A = ℕ} (c .stands .result) 1 0 ≡ 0 = ap (λ b. cond b 1 0) (w .if-stands .left) in (omega (arith, w .count-is, old .0, m, k), omega (arith, w .count-is, old .1)))
+    ]
 
 pub returns : need.returns
 returns g c =

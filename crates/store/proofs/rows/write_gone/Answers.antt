@@ -32,20 +32,25 @@ loop-i-again g c =
     let v = getD p i 0 in
     let at = node-at (c .as-slice-v-items .result .now) p i (record { 0 = 0 }) (c .as-slice-v-items .ensures) h in
     elim (c .match-get .came) [
-        in-Some w ↦ (
+      | in-Some w ↦ (
           let b = w .in-Some .block in
           let G = goneOf s (heldOf b) v in
           let same = gone-next s bs p i G h (gone-some s xs i v b (sym (c .get .ensures) ∙ w .in-Some .is)) in
           let end : w .write-gone-of-at .result ≡ c .loop-i .at + length G = w .write-gone-of-at .ensures .end ∙ ap (λ u. c .loop-i .at + length (goneOf s (heldOf b) u)) (sym (at .1)) in
           let long : w .write-gone-of-at .result ≡ length (goneRows s bs (take (i + 1) p)) = end ∙ (ap (λ n. n + length G) (inv .0) ∙ (sym (length-append (goneRows s bs (take i p)) G) ∙ ap length (sym same))) in
-          rw (w .at-is, w .rows-is) (long, omega (arith, end, inv .1, gone-length s b v), λ k.
-            w .write-gone-of-at .ensures .rows (omega (arith, k, c .loop-i .kept .rows))
-            ∙ (ap (λ u. take (c .loop-i .at) (lines (c .loop-i .rows)) ++ (goneOf s (heldOf b) u ++ drop (w .write-gone-of-at .result) (lines (c .loop-i .rows)))) (sym (at .1))
-            ∙ (gone-more (goneRows s bs (take i p)) G (lines old) (lines (c .loop-i .rows)) (c .loop-i .at) (w .write-gone-of-at .result) (sym (inv .0)) end (inv .2 (omega (arith, k, end)))
-            ∙ ap (λ l. l ++ drop (w .write-gone-of-at .result) (lines old)) (sym same)))))
+          rw (w .at-is, w .rows-is) (
+            long,
+            omega (arith, end, inv .1, gone-length s b v),
+            λ k.
+                w .write-gone-of-at .ensures .rows (omega (arith, k, c .loop-i .kept .rows))
+                ∙ (ap (λ u. take (c .loop-i .at) (lines (c .loop-i .rows)) ++ (goneOf s (heldOf b) u ++ drop (w .write-gone-of-at .result) (lines (c .loop-i .rows)))) (sym (at .1))
+                ∙ (gone-more (goneRows s bs (take i p)) G (lines old) (lines (c .loop-i .rows)) (c .loop-i .at) (w .write-gone-of-at .result) (sym (inv .0)) end (inv .2 (omega (arith, k, end)))
+                ∙ ap (λ l. l ++ drop (w .write-gone-of-at .result) (lines old)) (sym same))),
+          ))
       | in-None w ↦ (
           let same : goneRows s bs (take (i + 1) p) ≡ goneRows s bs (take i p) = gone-next s bs p i [] h (gone-past s xs i v (sym (c .get .ensures) ∙ w .in-None .is)) ∙ append-nil (goneRows s bs (take i p)) in
-          rw (w .at-is, w .rows-is) (inv .0 ∙ ap length (sym same), omega (arith, inv .1), λ k. inv .2 k ∙ ap (λ l. l ++ drop (c .loop-i .at) (lines old)) (sym same))) ]
+          rw (w .at-is, w .rows-is) (inv .0 ∙ ap length (sym same), omega (arith, inv .1), λ k. inv .2 k ∙ ap (λ l. l ++ drop (c .loop-i .at) (lines old)) (sym same)))
+    ]
 
 pub returns : need.returns
 returns g c =

@@ -35,13 +35,14 @@ loop-w-again g c =
     let h : j < length vs = omega (arith, c .loop-w-test .taken, slice-long (c .nodes-w-items .result .now) vs (c .nodes-w-items .ensures)) in
     let at = node-at (c .nodes-w-items .result .now) vs j (record { 0 = 0 }) (c .nodes-w-items .ensures) h in
     elim (c .if-w-stays .came) [
-        then-w-stays w ↦ (
+      | then-w-stays w ↦ (
           let row-is = w .row-of .ensures ∙ ap (λ n. (2, n, (getD (c .nodes-w-items .result .now) j (record { 0 = 0 })) .0, rackOf s ((getD (c .nodes-w-items .result .now) j (record { 0 = 0 })) .0))) (w .number .ensures) in
           let q = gone-put s (b .number) vs v j old (c .loop-w .rows) (c .args .at) (c .loop-w .end) h (inv .0) (inv .2) (w .row-of .result) _ (at .1) (w .if-w-stays .taken) row-is in
           rw (w .end-is, w .rows-is, w .put .ensures) (q .0, omega (arith, inv .1), q .1))
       | else-w-stays w ↦ (
           let q = gone-stay s (b .number) vs v j old (c .loop-w .rows) (c .args .at) (c .loop-w .end) h (inv .0) (inv .2) (at .1 ∙ w .if-w-stays .left) in
-          rw (w .end-is, w .rows-is) (q .0, omega (arith, inv .1), q .1)) ]
+          rw (w .end-is, w .rows-is) (q .0, omega (arith, inv .1), q .1))
+    ]
 
 pub returns : need.returns
 returns g c =

@@ -47,9 +47,10 @@ loop-i-again g c =
     let same : mean (c .loop-i .store .map) ≡ s = ap mean (inv .0) in
     let raw = c .call-answer .ensures .since (take i cs) (inv .1 ∙ ap (λ x. ledger x (take i cs)) (sym same)) in
     let t : Since s (take i cs) q (ledgerOf (c .call-answer .last .self)) (c .call-answer .result) (c .loop-i .rows) (c .call-answer .last .rows) =
-      subst (λ n. Since s (take i cs) (callOf (getD calls i d) n) (ledgerOf (c .call-answer .last .self)) (c .call-answer .result) (c .loop-i .rows) (c .call-answer .last .rows)) (c .loop-i .kept .rows)
-        (subst (λ x. Since x (take i cs) (callOf (getD calls i d) (length (c .loop-i .rows))) (ledgerOf (c .call-answer .last .self)) (c .call-answer .result) (c .loop-i .rows) (c .call-answer .last .rows)) same raw) in
-    (c .call-answer .ensures .told .kept ∙ inv .0,
-     run-ledger s room cs i h q is (ledgerOf (c .call-answer .last .self)) (t .ledgered),
-     subst (Sofar s room cs (i + 1)) (sym (c .note .ensures)) (run-more s room cs i h q is (c .loop-i .answers) (c .call-answer .result) (ledgerOf (c .call-answer .last .self)) (c .loop-i .rows) (c .call-answer .last .rows) (inv .2) t (c .loop-i .kept .rows)),
-     ap (drop (i + 1)) (c .note .ensures) ∙ past-more i (c .args .answers .now) (c .loop-i .answers) (c .call-answer .result) (inv .3))
+    subst (λ n. Since s (take i cs) (callOf (getD calls i d) n) (ledgerOf (c .call-answer .last .self)) (c .call-answer .result) (c .loop-i .rows) (c .call-answer .last .rows)) (c .loop-i .kept .rows)
+    (subst (λ x. Since x (take i cs) (callOf (getD calls i d) (length (c .loop-i .rows))) (ledgerOf (c .call-answer .last .self)) (c .call-answer .result) (c .loop-i .rows) (c .call-answer .last .rows)) same raw) in (
+      c .call-answer .ensures .told .kept ∙ inv .0,
+      run-ledger s room cs i h q is (ledgerOf (c .call-answer .last .self)) (t .ledgered),
+      subst (Sofar s room cs (i + 1)) (sym (c .note .ensures)) (run-more s room cs i h q is (c .loop-i .answers) (c .call-answer .result) (ledgerOf (c .call-answer .last .self)) (c .loop-i .rows) (c .call-answer .last .rows) (inv .2) t (c .loop-i .kept .rows)),
+      ap (drop (i + 1)) (c .note .ensures) ∙ past-more i (c .args .answers .now) (c .loop-i .answers) (c .call-answer .result) (inv .3),
+    )

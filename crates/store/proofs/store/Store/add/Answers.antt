@@ -25,8 +25,8 @@ ghost-self g c =
     let st = c .args .self .now in
     let own = led.blocksOf (stripeOf (getD (st .stripes) (c .args .rack .0) (c .index-self-rack-in-Ok .result))) in
     fits-put st (c .args .rack .0) (c .add .last .self)
-      (allowed-filling (st .code) (c .args .code) (c .add .last .self) (own ++ heldOf (c .args .block) ∷ []) (c .pre .coded) (c .add .ensures)
-        (omega (arith, length-push own (heldOf (c .args .block)), c .pre .below, ap (λ x. length (led.blocksOf x)) (stripe-at st (c .args .rack .0) (c .pre .near) (c .index-self-rack-in-Ok .result)))))
+    (allowed-filling (st .code) (c .args .code) (c .add .last .self) (own ++ heldOf (c .args .block) ∷ []) (c .pre .coded) (c .add .ensures)
+    (omega (arith, length-push own (heldOf (c .args .block)), c .pre .below, ap (λ x. length (led.blocksOf x)) (stripe-at st (c .args .rack .0) (c .pre .near) (c .index-self-rack-in-Ok .result)))))
 
 pub returns-in-Err : need.returns-in-Err
 returns-in-Err g c =
@@ -35,17 +35,18 @@ returns-in-Err g c =
     let bs = c .blocks-own .result in
     let b = c .args .block in
     tried-no s st (c .args .rack .0) (c .index-self-rack .result) (c .pre .near) bs (c .blocks-own .ensures) (c .args .code .c) b (c .in-Err .word)
-      (subst (λ x. choices s x (listsOf bs ++ copiesOf b ∷ []) ≡ []) (c .c .ensures) (c .in-Err .ensures tt .listed))
-      (subst (λ x. Crowded-out s x (listsOf bs) (copiesOf b) (c .in-Err .word)) (c .c .ensures) (c .in-Err .ensures tt .chosen))
+    (subst (λ x. choices s x (listsOf bs ++ copiesOf b ∷ []) ≡ []) (c .c .ensures) (c .in-Err .ensures tt .listed))
+    (subst (λ x. Crowded-out s x (listsOf bs) (copiesOf b) (c .in-Err .word)) (c .c .ensures) (c .in-Err .ensures tt .chosen))
 
 pub returns-in-Ok : need.returns-in-Ok
 returns-in-Ok g c =
     let st = c .args .self .now in
     let s = g .M·SiteMap .meaning (st .map) in
     let bs = c .blocks-own .result in
-    let b = c .args .block in
-    (tried-choice s st (c .args .rack .0) (c .index-self-rack .result) (c .pre .near) bs (c .blocks-own .ensures) (c .args .code .c) b
-      (subst (λ x. choices s x (listsOf bs ++ copiesOf b ∷ []) ≡ [] → ⊥) (c .c .ensures) (c .in-Ok .ensures tt .listed)),
-     ap (λ n. Position (n + 1)) (c .len .ensures ∙ own-length s st (c .args .rack .0) (c .index-self-rack .result) (c .pre .near) bs (c .blocks-own .ensures)),
-     added st (c .args .rack .0) (c .index-self-rack-in-Ok .result) (c .pre .near) (c .add .last .self) (heldOf b) (c .add .ensures),
-     refl)
+    let b = c .args .block in (
+      tried-choice s st (c .args .rack .0) (c .index-self-rack .result) (c .pre .near) bs (c .blocks-own .ensures) (c .args .code .c) b
+          (subst (λ x. choices s x (listsOf bs ++ copiesOf b ∷ []) ≡ [] → ⊥) (c .c .ensures) (c .in-Ok .ensures tt .listed)),
+      ap (λ n. Position (n + 1)) (c .len .ensures ∙ own-length s st (c .args .rack .0) (c .index-self-rack .result) (c .pre .near) bs (c .blocks-own .ensures)),
+      added st (c .args .rack .0) (c .index-self-rack-in-Ok .result) (c .pre .near) (c .add .last .self) (heldOf b) (c .add .ensures),
+      refl,
+    )

@@ -134,7 +134,7 @@ returns-then-len-k g c =
     let near : r < 32 = omega (arith, core-near s vs (g .M·SiteMap .limits (st .map)) (omega (arith, long .0)) (sym (c .if-not-all-on-map .ensures tt)), c .core-rack-rack .ensures) in
     let own : length (led.blocksOf (led.stripe (ledgerOf st) r)) ≡ length (led.blocksOf (led.stripe (ledgerOf st) (led.core s vs))) = ap (λ x. length (led.blocksOf (led.stripe (ledgerOf st) x))) (c .core-rack-rack .ensures) in
     offer-full s st b vs o (c .in-Some .is) (long .0) (long .1) (sym (c .if-not-all-on-map .ensures tt)) (sym (c .if-not-all-differ .ensures tt)) (again s vs (c .core-rack-rack .result .0) (c .core-rack-rack .ensures) (c .if-not-rest-outside .ensures tt)) (sym (c .if-holds .ensures tt))
-      (omega (arith, own, c .if-len-k .taken, c .len .ensures, c .k .ensures, helds-length (c .in-Filling .blocks), ap (λ x. length (led.blocksOf x)) (stripe-at st r near (c .index-self-rack .result) ∙ ap stripeOf (c .in-Filling .is))))
+    (omega (arith, own, c .if-len-k .taken, c .len .ensures, c .k .ensures, helds-length (c .in-Filling .blocks), ap (λ x. length (led.blocksOf x)) (stripe-at st r near (c .index-self-rack .result) ∙ ap stripeOf (c .in-Filling .is))))
 
 pub returns-in-Sealed : need.returns-in-Sealed
 returns-in-Sealed g c =
@@ -149,7 +149,7 @@ returns-in-Sealed g c =
     let near : r < 32 = omega (arith, core-near s vs (g .M·SiteMap .limits (st .map)) (omega (arith, long .0)) (sym (c .if-not-all-on-map .ensures tt)), c .core-rack-rack .ensures) in
     let own : length (led.blocksOf (led.stripe (ledgerOf st) r)) ≡ length (led.blocksOf (led.stripe (ledgerOf st) (led.core s vs))) = ap (λ x. length (led.blocksOf (led.stripe (ledgerOf st) x))) (c .core-rack-rack .ensures) in
     offer-full s st b vs o (c .in-Some .is) (long .0) (long .1) (sym (c .if-not-all-on-map .ensures tt)) (sym (c .if-not-all-differ .ensures tt)) (again s vs (c .core-rack-rack .result .0) (c .core-rack-rack .ensures) (c .if-not-rest-outside .ensures tt)) (sym (c .if-holds .ensures tt))
-      (omega (arith, own, sealed-full st r (c .index-self-rack .result) o (c .in-Some .is) near (c .in-Sealed .field-0) (c .in-Sealed .field-1) (c .in-Sealed .is), ap (λ x. length (led.blocksOf x)) (stripe-at st r near (c .index-self-rack .result) ∙ ap stripeOf (c .in-Sealed .is))))
+    (omega (arith, own, sealed-full st r (c .index-self-rack .result) o (c .in-Some .is) near (c .in-Sealed .field-0) (c .in-Sealed .field-1) (c .in-Sealed .is), ap (λ x. length (led.blocksOf x)) (stripe-at st r near (c .index-self-rack .result) ∙ ap stripeOf (c .in-Sealed .is))))
 
 pub returns-in-Empty : need.returns-in-Empty
 returns-in-Empty g c =
@@ -164,10 +164,10 @@ returns-in-Empty g c =
     let near : r < 32 = omega (arith, core-near s vs (g .M·SiteMap .limits (st .map)) (omega (arith, long .0)) (sym (c .if-not-all-on-map .ensures tt)), c .core-rack-rack .ensures) in
     let own : length (led.blocksOf (led.stripe (ledgerOf st) r)) ≡ length (led.blocksOf (led.stripe (ledgerOf st) (led.core s vs))) = ap (λ x. length (led.blocksOf (led.stripe (ledgerOf st) x))) (c .core-rack-rack .ensures) in
     offer-tried s st b vs o (c .in-Some .is) (long .0) (long .1) (sym (c .if-not-all-on-map .ensures tt)) (sym (c .if-not-all-differ .ensures tt)) (again s vs (c .core-rack-rack .result .0) (c .core-rack-rack .ensures) (c .if-not-rest-outside .ensures tt)) (sym (c .if-holds .ensures tt))
-      (omega (arith, own, o .some, ap (λ x. length (led.blocksOf x)) (stripe-at st r near (c .index-self-rack .result) ∙ ap stripeOf (c .in-Empty .is))))
-      r (heldOf (c .in-Some-new .block)) (c .add .last .self) (c .add .result) (c .core-rack-rack .ensures)
-      (ap (λ n. record { number = n; copies = heldOf (c .in-Some-new .block) .copies }) (c .in-Some-new .ensures tt .0) ∙ ap (λ l. record { number = b; copies = l }) (c .in-Some-new .ensures tt .1))
-      (c .add .ensures)
+    (omega (arith, own, o .some, ap (λ x. length (led.blocksOf x)) (stripe-at st r near (c .index-self-rack .result) ∙ ap stripeOf (c .in-Empty .is))))
+    r (heldOf (c .in-Some-new .block)) (c .add .last .self) (c .add .result) (c .core-rack-rack .ensures)
+    (ap (λ n. record { number = n; copies = heldOf (c .in-Some-new .block) .copies }) (c .in-Some-new .ensures tt .0) ∙ ap (λ l. record { number = b; copies = l }) (c .in-Some-new .ensures tt .1))
+    (c .add .ensures)
 
 pub returns-else-len-k : need.returns-else-len-k
 returns-else-len-k g c =
@@ -182,7 +182,7 @@ returns-else-len-k g c =
     let near : r < 32 = omega (arith, core-near s vs (g .M·SiteMap .limits (st .map)) (omega (arith, long .0)) (sym (c .if-not-all-on-map .ensures tt)), c .core-rack-rack .ensures) in
     let own : length (led.blocksOf (led.stripe (ledgerOf st) r)) ≡ length (led.blocksOf (led.stripe (ledgerOf st) (led.core s vs))) = ap (λ x. length (led.blocksOf (led.stripe (ledgerOf st) x))) (c .core-rack-rack .ensures) in
     offer-tried s st b vs o (c .in-Some .is) (long .0) (long .1) (sym (c .if-not-all-on-map .ensures tt)) (sym (c .if-not-all-differ .ensures tt)) (again s vs (c .core-rack-rack .result .0) (c .core-rack-rack .ensures) (c .if-not-rest-outside .ensures tt)) (sym (c .if-holds .ensures tt))
-      (omega (arith, own, c .if-len-k .left, c .len .ensures, c .k .ensures, helds-length (c .in-Filling .blocks), ap (λ x. length (led.blocksOf x)) (stripe-at st r near (c .index-self-rack .result) ∙ ap stripeOf (c .in-Filling .is))))
-      r (heldOf (c .in-Some-new .block)) (c .add-in-Filling .last .self) (c .add-in-Filling .result) (c .core-rack-rack .ensures)
-      (ap (λ n. record { number = n; copies = heldOf (c .in-Some-new .block) .copies }) (c .in-Some-new .ensures tt .0) ∙ ap (λ l. record { number = b; copies = l }) (c .in-Some-new .ensures tt .1))
-      (c .add-in-Filling .ensures)
+    (omega (arith, own, c .if-len-k .left, c .len .ensures, c .k .ensures, helds-length (c .in-Filling .blocks), ap (λ x. length (led.blocksOf x)) (stripe-at st r near (c .index-self-rack .result) ∙ ap stripeOf (c .in-Filling .is))))
+    r (heldOf (c .in-Some-new .block)) (c .add-in-Filling .last .self) (c .add-in-Filling .result) (c .core-rack-rack .ensures)
+    (ap (λ n. record { number = n; copies = heldOf (c .in-Some-new .block) .copies }) (c .in-Some-new .ensures tt .0) ∙ ap (λ l. record { number = b; copies = l }) (c .in-Some-new .ensures tt .1))
+    (c .add-in-Filling .ensures)
