@@ -33,7 +33,7 @@ Before b v w = (i j : ℕ) × (i < j) × (j < length b) × (getD b i 0 ≡ v) ×
 pub record First (s : Site) (c : ℕ) (bs : List Copies) (vs : List ℕ) : Type 0 where
   pub choice : Choice s c bs vs
   pub earliest : (us : List ℕ) → Choice s c bs us → (us ≡ vs → ⊥)
-    → (i : ℕ) × (i < length bs) × ((j : ℕ) → j < i → getD us j 0 ≡ getD vs j 0) × Before (getD bs i []) (getD vs i 0) (getD us i 0)
+      → (i : ℕ) × (i < length bs) × ((j : ℕ) → j < i → getD us j 0 ≡ getD vs j 0) × Before (getD bs i []) (getD vs i 0) (getD us i 0)
 
 -- The same as a list in the plan's order. Its head is the first choice, and it is empty where there is none.
 
@@ -68,9 +68,9 @@ choices s c bs = kept-by (fits s c) (picks bs)
 -- it holds the choices and nothing else
 abbrev pub Choices-exact : Type 0
 Choices-exact = (s : Site) (c : ℕ) (bs : List Copies) (vs : List ℕ)
-  → (Has (choices s c bs) vs → Choice s c bs vs) × (Choice s c bs vs → Has (choices s c bs) vs)
+    → (Has (choices s c bs) vs → Choice s c bs vs) × (Choice s c bs vs → Has (choices s c bs) vs)
 
 -- and its head is the first, where no list names a node twice
 abbrev pub Head-first : Type 0
 Head-first = (s : Site) (c : ℕ) (bs : List Copies) (vs : List ℕ) (more : List (List ℕ))
-  → ((b : List ℕ) → Has bs b → apart b ≡ true) → choices s c bs ≡ vs ∷ more → First s c bs vs
+    → ((b : List ℕ) → Has bs b → apart b ≡ true) → choices s c bs ≡ vs ∷ more → First s c bs vs

@@ -1,5 +1,3 @@
-pub mod Fronts
-pub mod Same
 pub mod Asked
 pub mod Rooms
 pub mod Seated

@@ -1,6 +1,6 @@
 -- The steps of narrowing: a block left one seat alone, and all blocks in turn.
 use mathlib.Core.Path.{_≡_, refl, sym, ap, subst, _∙_}
-use mathlib.Core.Bool.{Bool, true, false, _&&_, _||_}
+use mathlib.Core.Bool.{Bool, true, false, _&&_}
 use mathlib.Core.List.{List, [], _∷_, _++_, map}
 use mathlib.Core.Logic.{inl, inr}
 use Prim.Native.Nat.{ℕ, _+_, _-_, _<_, _≤_}
@@ -28,7 +28,7 @@ use Rattle.choices.proofs.Sets.{uncrowded}
 use Rattle.choices.proofs.Sites.{sized, choice-by, complete-of}
 use Rattle.placement.specs.declared.seat.Seat.{Seat}
 use Rattle.placement.specs.declared.seat.Seats.{Seats}
-use Rattle.placement.specs.Lists.{Pushed}
+use Rattle.blocks.specs.Lists.{Pushed}
 use Rattle.placement.specs.Seats.{seatsOf, nodeAt, Settled, Placing, Crowding, Sits}
 use Rattle.placement.specs.Resolved.{seatAt, Resolved, Seating}
 use Rattle.placement.specs.Firsts.{placed, Standing, Narrows}
@@ -62,20 +62,20 @@ module _ (s : Site) (c n : ℕ) (ds : List Copies) (seats : List Seats) (at : Li
         let k : i < length (map (map (seatAt s)) ds) = omega (arith, inside, length-map ds (map (seatAt s))) in
         record {
           same =
-            map-set seatsOf seats i q ∙ ap (λ z. set z i (seatsOf q)) (h .seating .same)
-            ∙ ap (λ z. set (filled [] 17 (map (map (seatAt s)) ds)) i z) one
-            ∙ set-append-left (map (map (seatAt s)) ds) (replicate (17 - length (map (map (seatAt s)) ds)) []) i (map (seatAt s) (getD (getD ds i []) j 0 ∷ [])) k
-            ∙ ap (λ z. set (map (map (seatAt s)) ds) i (map (seatAt s) (getD (getD ds i []) j 0 ∷ [])) ++ replicate (17 - z) [])
+              map-set seatsOf seats i q ∙ ap (λ z. set z i (seatsOf q)) (h .seating .same)
+              ∙ ap (λ z. set (filled [] 17 (map (map (seatAt s)) ds)) i z) one
+              ∙ set-append-left (map (map (seatAt s)) ds) (replicate (17 - length (map (map (seatAt s)) ds)) []) i (map (seatAt s) (getD (getD ds i []) j 0 ∷ [])) k
+              ∙ ap (λ z. set (map (map (seatAt s)) ds) i (map (seatAt s) (getD (getD ds i []) j 0 ∷ [])) ++ replicate (17 - z) [])
               (sym (length-set (map (map (seatAt s)) ds) i (map (seatAt s) (getD (getD ds i []) j 0 ∷ []))))
-            ∙ ap (filled [] 17) (sym (map-set (map (seatAt s)) ds i (getD (getD ds i []) j 0 ∷ [])));
+              ∙ ap (filled [] 17) (sym (map-set (map (seatAt s)) ds i (getD (getD ds i []) j 0 ∷ [])));
           few = rw length-set (h .seating .few);
           kept = λ k v t.
-            elim (cases-eq k i) [
-              inl e ↦
-                let t′ : has v (getD (getD ds i []) j 0 ∷ []) ≡ true = rw (e, getD-set-same ds i (getD (getD ds i []) j 0 ∷ []) [] inside) at t in
-                rw (only v t′) node-kept
-            | inr e ↦ h .seating .kept k v (rw (getD-set-other ds i k (getD (getD ds i []) j 0 ∷ []) [] e) at t)
-            ]
+              elim (cases-eq k i) [
+                | inl e ↦
+                    let t′ : has v (getD (getD ds i []) j 0 ∷ []) ≡ true = rw (e, getD-set-same ds i (getD (getD ds i []) j 0 ∷ []) [] inside) at t in
+                    rw (only v t′) node-kept
+                | inr e ↦ h .seating .kept k v (rw (getD-set-other ds i k (getD (getD ds i []) j 0 ∷ []) [] e) at t)
+              ];
         }
 
     narrow-count : length (narrow ds i j) ≡ n
@@ -92,47 +92,54 @@ module _ (s : Site) (c n : ℕ) (ds : List Copies) (seats : List Seats) (at : Li
     -- where it sits there already
     pub narrow-there : nodeAt at i ≡ getD (getD ds i []) j 0 → Standing s c n (narrow ds i j) (set seats i q) at
     narrow-there e = record {
-        limits = h .limits; count = narrow-count; seating = narrow-seating;
-        settled = record {
-          complete = placed-same n c (rackOf s) (rackOf s) (usable s ds) (usable s (narrow ds i j)) (λ _. true) (nodeAt at) (nodeAt at)
-            (λ k _ _ u.
-              (elim (cases-eq k i) [
-                inl d ↦ subst (λ z. usable s (narrow ds i j) z (nodeAt at z) ≡ true) (sym d) (subst (λ z. usable s (narrow ds i j) i z ≡ true) (sym e) here)
-              | inr d ↦ other k (nodeAt at k) d u
-              ], refl))
+      limits = h .limits;
+      count = narrow-count;
+      seating = narrow-seating;
+      settled = record {
+        complete = placed-same n c (rackOf s) (rackOf s) (usable s ds) (usable s (narrow ds i j)) (λ _. true) (nodeAt at) (nodeAt at)
+            (λ k _ _ u. (
+              elim (cases-eq k i) [
+                | inl d ↦ subst (λ z. usable s (narrow ds i j) z (nodeAt at z) ≡ true) (sym d) (subst (λ z. usable s (narrow ds i j) i z ≡ true) (sym e) here)
+                | inr d ↦ other k (nodeAt at k) d u
+              ],
+              refl,
+            ))
             (λ k _ _. refl) (h .settled .complete);
-          tells = h .settled .tells
-        }
-      }
+        tells = h .settled .tells;
+      };
+    }
 
     -- else it is taken out
     pub narrow-placing : Placing (rackOf s) (usable s (narrow ds i j)) (length s) n c (set seats i q) at i
     narrow-placing = record {
-        sized = sized s c (narrow ds i j) (h .limits);
-        sits = subst (λ k. Sits (rackOf s) (usable s (narrow ds i j)) k (set seats i q)) narrow-count (sits-of s (narrow ds i j) (set seats i q) narrow-seating);
-        tells = λ k g _. h .settled .tells k g;
-        partial = record {
-          inside = l;
-          placed = record {
-            usable = λ k g t. other k (nodeAt at k) (but-no i k t) (h .settled .complete .usable k g refl);
-            distinct = λ a b g k _ _ e. h .settled .complete .distinct a b g k refl refl e;
-            spread = λ r.
+      sized = sized s c (narrow ds i j) (h .limits);
+      sits = subst (λ k. Sits (rackOf s) (usable s (narrow ds i j)) k (set seats i q)) narrow-count (sits-of s (narrow ds i j) (set seats i q) narrow-seating);
+      tells = λ k g _. h .settled .tells k g;
+      partial = record {
+        inside = l;
+        placed = record {
+          usable = λ k g t. other k (nodeAt at k) (but-no i k t) (h .settled .complete .usable k g refl);
+          distinct = λ a b g k _ _ e. h .settled .complete .distinct a b g k refl refl e;
+          spread = λ r.
               le-trans
               (count-le n (λ k. but i k && eqb (rackOf s (nodeAt at k)) r) (λ k. true && eqb (rackOf s (nodeAt at k)) r) (λ k g t. and-parts (but i k) _ t .1))
-              (h .settled .complete .spread r)
-          }
-        }
-      }
+              (h .settled .complete .spread r);
+        };
+      };
+    }
 
     pub narrow-sat : (at′ : List Seat) → Settled (rackOf s) (usable s (narrow ds i j)) n c at′ → Standing s c n (narrow ds i j) (set seats i q) at′
     narrow-sat at′ k = record { limits = h .limits; count = narrow-count; seating = narrow-seating; settled = k }
 
     pub narrow-none : (w : ℕ) → Crowding (rackOf s) (usable s (narrow ds i j)) (length s) n c w → (vs : List ℕ) → Choice s c (narrow ds i j) vs → ⊥
     narrow-none w k vs d =
-        omega (arith, k .crowded,
+        omega (
+          arith,
+          k .crowded,
           uncrowded n (length s) 32 c (rackOf s) (usable s (narrow ds i j)) (sized s c (narrow ds i j) (h .limits)) (λ a. getD vs a 0)
-          (subst (λ z. Complete z c (rackOf s) (usable s (narrow ds i j)) (λ a. getD vs a 0)) narrow-count (complete-of s c (narrow ds i j) vs d))
-          (member w))
+              (subst (λ z. Complete z c (rackOf s) (usable s (narrow ds i j)) (λ a. getD vs a 0)) narrow-count (complete-of s c (narrow ds i j) vs d))
+              (member w),
+        )
 
 -- what the code does for the seat j of block i, whose seats are `list`: it leaves the block those of q
 module _ (s : Site) (c n : ℕ) (ds : List Copies) (seats : List Seats) (at : List Seat) (h : Standing s c n ds seats at) (i j : ℕ) (l : i < n)
@@ -174,8 +181,8 @@ pub vain-more : (s : Site) (c : ℕ) (ds : List Copies) (i j : ℕ) → Vain s c
     → (j < length (getD ds i []) → (vs : List ℕ) → Choice s c (narrow ds i j) vs → ⊥) → Vain s c ds i (j + 1)
 vain-more s c ds i j vain f k l m vs d =
     elim (cases-eq k j) [
-      inl e ↦ f (omega arith) vs (subst (λ z. Choice s c (narrow ds i z) vs) e d)
-    | inr e ↦ vain k (omega arith) m vs d
+      | inl e ↦ f (omega arith) vs (subst (λ z. Choice s c (narrow ds i z) vs) e d)
+      | inr e ↦ vain k (omega arith) m vs d
     ]
 
 pub narrows-none : (s : Site) (c n : ℕ) (bs : List Copies) (seats : List Seats) (at : List Seat) → Standing s c n bs seats at → Narrows s c n bs 0 seats at
@@ -200,7 +207,7 @@ module _ (s : Site) (c n : ℕ) (bs : List Copies) (i : ℕ) (seats : List Seats
           lists = narrow (h .lists) i j;
           standing = f m;
           narrowing = narrowing-more s c bs (h .lists) i j (placed n at) (placed n at′) (h .narrowing) (omega (arith, h .standing .count, h .narrowing .long)) m
-            (λ b g. vain b g (omega arith)) (standing-choice s c n (narrow (h .lists) i j) seats′ at′ (f m))
+              (λ b g. vain b g (omega arith)) (standing-choice s c n (narrow (h .lists) i j) seats′ at′ (f m));
         }
 
     -- some seat leaves a choice
@@ -217,9 +224,11 @@ standing-first s limits c bs seats n at long few r f =
     let g = seating s bs seats (omega arith) r in
     let count : length (map (kept-by (keeps s)) bs) ≡ n = length-map bs (kept-by (keeps s)) ∙ long in
     record {
-      limits = limits; count = count; seating = g;
+      limits = limits;
+      count = count;
+      seating = g;
       settled = f (rackOf s) (usable s (map (kept-by (keeps s)) bs)) (length s) (sized s c (map (kept-by (keeps s)) bs) limits)
-        (subst (λ m. Sits (rackOf s) (usable s (map (kept-by (keeps s)) bs)) m seats) count (sits-of s (map (kept-by (keeps s)) bs) seats g))
+          (subst (λ m. Sits (rackOf s) (usable s (map (kept-by (keeps s)) bs)) m seats) count (sits-of s (map (kept-by (keeps s)) bs) seats g));
     }
 
 -- the nodes of the blocks that sit, one more

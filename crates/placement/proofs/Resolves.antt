@@ -18,10 +18,10 @@ use Rattle.site.proofs.Fills.{filled-push, length-filled}
 use Rattle.choices.specs.Choice.{Copies, has}
 use Rattle.choices.specs.Hall.{usable}
 use Rattle.choices.proofs.Nodes.{has-place, has-at}
-use Rattle.placement.specs.declared.block.Block.{Block}
+use Rattle.blocks.specs.declared.block.Block.{Block}
 use Rattle.placement.specs.declared.seat.Seat.{Seat}
 use Rattle.placement.specs.declared.seat.Seats.{Seats}
-use Rattle.placement.specs.Blocks.{copiesOf, numbers}
+use Rattle.blocks.specs.Blocks.{copiesOf, numbers}
 use Rattle.placement.specs.Seats.{seatsOf, nodeAt, rackAt, Sits}
 use Rattle.placement.specs.Resolved.{seatAt, seated, listsIn, Resolved, Seating}
 
@@ -50,17 +50,18 @@ resolved-push s bs seats b q i r e l h =
     ∙ filled-push [] 17 i (map (seated s) bs) (seated s b) (length-map bs (seated s) ∙ e) l
     ∙ ap (filled [] 17) (sym (map-push (seated s) bs b))
 
-pub resolve-step : (s : Site) (q : Block) (i : ℕ) → i < q .len → (before after : List Seat) → before ≡ seated s (take i (copiesOf q))
-    → after ≡ before ++ seated s (getD (q .nodes) i (record { 0 = 0 }) .0 ∷ []) → after ≡ seated s (take (i + 1) (copiesOf q))
-resolve-step s q i l before after e f =
-    let m = seated-more s (copiesOf q) i (omega (arith, copies-length q)) in
-    let a = copy-at q i l in cc
+pub resolve-step : (s : Site) (vs : List Node) (b : Copies) → numbers vs ≡ b → (i : ℕ) → i < length vs → (before after : List Seat) → before ≡ seated s (take i b)
+    → after ≡ before ++ seated s (getD vs i (record { 0 = 0 }) .0 ∷ []) → after ≡ seated s (take (i + 1) b)
+resolve-step s vs b n i l before after e f =
+    let k : length b ≡ length vs = ap length (sym n) ∙ length-map vs (λ v. v .0) in
+    let m = seated-more s b i (omega arith) in
+    let a : getD b i 0 ≡ getD vs i (record { 0 = 0 }) .0 = ap (λ z. getD z i 0) (sym n) ∙ getD-map (λ v. v .0) vs i (record { 0 = 0 }) 0 l in cc
 
 pub resolved-step : (s : Site) (bs : List Block) (seats : List Seats) (i : ℕ) (b : Block) (q : Seats) → length bs ≤ 16 → i < length bs → b ≡ getD bs i b
     → seatsOf q ≡ seated s (copiesOf b) → Resolved s (listsIn (take i bs)) seats → Resolved s (listsIn (take (i + 1) bs)) (set seats i q)
 resolved-step s bs seats i b q few l is h r =
     let e : listsIn (take (i + 1) bs) ≡ listsIn (take i bs) ++ copiesOf b ∷ [] =
-      ap listsIn (take-more bs i b l ∙ ap (λ z. take i bs ++ z ∷ []) (sym is)) ∙ map-push copiesOf (take i bs) b in
+    ap listsIn (take-more bs i b l ∙ ap (λ z. take i bs ++ z ∷ []) (sym is)) ∙ map-push copiesOf (take i bs) b in
     rw e (resolved-push s (listsIn (take i bs)) seats (copiesOf b) q i r (length-map (take i bs) copiesOf ∙ length-take-le i bs (omega arith)) (omega arith) h)
 
 -- lists cut down to their yes nodes
@@ -68,9 +69,9 @@ kept-has : (q : ℕ → Bool) (b : List ℕ) (v : ℕ) → has v (kept-by q b) �
 kept-has q [] v h = absurd (false≢true h)
 kept-has q (w ∷ b) v h =
     elim (cases-bool (q w)) [
-      inl t ↦
-        elim (or-cases (eqb v w) (has v (kept-by q b)) (rw t at h)) [ inl e ↦ rw (eqb-true v w e) t | inr e ↦ kept-has q b v e ]
-    | inr t ↦ kept-has q b v (rw t at h)
+      | inl t ↦
+          elim (or-cases (eqb v w) (has v (kept-by q b)) (rw t at h)) [ inl e ↦ rw (eqb-true v w e) t | inr e ↦ kept-has q b v e ]
+      | inr t ↦ kept-has q b v (rw t at h)
     ]
 
 kept-lists : (q : ℕ → Bool) (bs : List Copies) (i v : ℕ) → has v (getD (map (kept-by q) bs) i []) ≡ true → q v ≡ true
@@ -84,8 +85,10 @@ seated-lists s (b ∷ bs) = ap (λ z. seated s b ∷ z) (seated-lists s bs)
 
 pub seating : (s : Site) (bs : List Copies) (seats : List Seats) → length bs ≤ 17 → Resolved s bs seats → Seating s (map (kept-by (keeps s)) bs) seats
 seating s bs seats l r = record {
-    same = r ∙ ap (filled [] 17) (seated-lists s bs); few = rw length-map l; kept = kept-lists (keeps s) bs
-  }
+  same = r ∙ ap (filled [] 17) (seated-lists s bs);
+  few = rw length-map l;
+  kept = kept-lists (keeps s) bs;
+}
 
 module _ (s : Site) (ds : List Copies) (seats : List Seats) (g : Seating s ds seats) where
   pub seats-long : length seats ≡ 17
@@ -112,17 +115,17 @@ seat-at s b q e k l =
 -- the seats tell of the site's racks, and of which nodes are usable
 pub sits-of : (s : Site) (ds : List Copies) (seats : List Seats) → Seating s ds seats → Sits (rackOf s) (usable s ds) (length ds) seats
 sits-of s ds seats g = record {
-    usable = λ i q l is k h.
+  usable = λ i q l is k h.
       let e = seats-at s ds seats g i q l is in
       let m : k < length (getD ds i []) = omega (arith, seats-length s (getD ds i []) q e) in
       let a = has-at (getD ds i []) k m in
       subst (λ z. usable s ds i (z .node .0) ≡ true) (sym (seat-at s (getD ds i []) q e k h))
       (and-from (keeps s (getD (getD ds i []) k 0)) _ (g .kept i _ a) a);
-    racked = λ i q l is k h.
+  racked = λ i q l is k h.
       subst (λ z. rackOf s (z .node .0) ≡ z .rack .0) (sym (seat-at s (getD ds i []) q (seats-at s ds seats g i q l is) k h)) refl;
-    listed = λ i q l is v u.
+  listed = λ i q l is v u.
       let e = seats-at s ds seats g i q l is in
       let p = has-place v (getD ds i []) (and-parts (keeps s v) _ u .1) in
       let h : p .0 < q .len = omega (arith, p .1, seats-length s (getD ds i []) q e) in
-      (p .0, h, ap (λ z. z .node .0) (seat-at s (getD ds i []) q e (p .0) h) ∙ p .2)
-  }
+      (p .0, h, ap (λ z. z .node .0) (seat-at s (getD ds i []) q e (p .0) h) ∙ p .2);
+}

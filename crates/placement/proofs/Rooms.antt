@@ -48,15 +48,15 @@ module _ (s : Site) (n : ℕ) (xs : List ℕ) (t : Tallied s n xs) where
   tally-yes k y e h = record {
     long = length-set xs k (getD xs k 0 + 1) ∙ t .long;
     counts = λ r l.
-      elim (cases-eq r k) [
-        inl q ↦
-          let t′ : yesIn s r n ≡ true = yes-at s n r k y e ∙ eq-eqb k r (sym q) in
-          let c : getD xs k 0 ≡ countTo n (yesIn s r) = ap (λ j. getD xs j 0) (sym q) ∙ t .counts r l in
-          ap (λ j. getD (set xs k (getD xs k 0 + 1)) j 0) q ∙ (getD-set-same xs k (getD xs k 0 + 1) 0 (omega (arith, t .long)) ∙ (ap (λ j. j + 1) c ∙ sym (count-yes n (yesIn s r) t′)))
-      | inr q ↦
-          let t′ : yesIn s r n ≡ false = yes-at s n r k y e ∙ ne-eqb k r (λ z. q (sym z)) in
-          getD-set-other xs k r (getD xs k 0 + 1) 0 q ∙ (t .counts r l ∙ sym (count-no n (yesIn s r) t′))
-      ];
+        elim (cases-eq r k) [
+          | inl q ↦
+              let t′ : yesIn s r n ≡ true = yes-at s n r k y e ∙ eq-eqb k r (sym q) in
+              let c : getD xs k 0 ≡ countTo n (yesIn s r) = ap (λ j. getD xs j 0) (sym q) ∙ t .counts r l in
+              ap (λ j. getD (set xs k (getD xs k 0 + 1)) j 0) q ∙ (getD-set-same xs k (getD xs k 0 + 1) 0 (omega (arith, t .long)) ∙ (ap (λ j. j + 1) c ∙ sym (count-yes n (yesIn s r) t′)))
+          | inr q ↦
+              let t′ : yesIn s r n ≡ false = yes-at s n r k y e ∙ ne-eqb k r (λ z. q (sym z)) in
+              getD-set-other xs k r (getD xs k 0 + 1) 0 q ∙ (t .counts r l ∙ sym (count-no n (yesIn s r) t′))
+        ];
   }
 
   pub tally-pass : keeps s n ≡ false → Tallied s (n + 1) xs

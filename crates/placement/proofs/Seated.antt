@@ -28,8 +28,9 @@ none = record { node = record { 0 = 0 }; rack = record { 0 = 0 } }
 -- a seat written at x is a move of x
 pub moved-seat : (at : List Seat) (x : ℕ) (v : Seat) → x < length at → Moved (nodeAt at) x (v .node .0) (nodeAt (set at x v))
 moved-seat at x v l = record {
-    here = ap (λ q. q .node .0) (getD-set-same at x v none l); there = λ k ne. ap (λ q. q .node .0) (getD-set-other at x k v none ne)
-  }
+  here = ap (λ q. q .node .0) (getD-set-same at x v none l);
+  there = λ k ne. ap (λ q. q .node .0) (getD-set-other at x k v none ne);
+}
 
 -- and back
 pub restored : (at at₁ at₂ : List Seat) (x : ℕ) (v : Seat) → at₁ ≡ at → at₂ ≡ set at₁ x v → set at₂ x (getD at x none) ≡ at
@@ -40,17 +41,17 @@ module _ (rack : ℕ → ℕ) (n : ℕ) (at : List Seat) (x : ℕ) (tells : Tell
   pub tells-set : (v : Seat) → x < length at → rack (v .node .0) ≡ v .rack .0 → (k : ℕ) → k < n → rack (nodeAt (set at x v) k) ≡ rackAt (set at x v) k
   tells-set v l e k h =
       elim (cases-eq k x) [
-        inl q ↦ subst (λ j. rack (nodeAt (set at x v) j) ≡ rackAt (set at x v) j) (sym q)
-          (subst (λ z. rack (z .node .0) ≡ z .rack .0) (sym (getD-set-same at x v none l)) e)
-      | inr q ↦ subst (λ z. rack (z .node .0) ≡ z .rack .0) (sym (getD-set-other at x k v none q)) (tells k h q)
+        | inl q ↦ subst (λ j. rack (nodeAt (set at x v) j) ≡ rackAt (set at x v) j) (sym q)
+            (subst (λ z. rack (z .node .0) ≡ z .rack .0) (sym (getD-set-same at x v none l)) e)
+        | inr q ↦ subst (λ z. rack (z .node .0) ≡ z .rack .0) (sym (getD-set-other at x k v none q)) (tells k h q)
       ]
 
   pub load-told : (r : ℕ) → loadOf n at x r ≡ inRack n rack (nodeAt at) x r
   load-told r =
       count-same n (λ k. but x k && eqb (rackAt at k) r) (λ k. but x k && eqb (rack (nodeAt at k)) r)
       (λ k l. elim (cases-eq k x) [
-        inl e ↦ let t : eqb k x ≡ true = eq-eqb k x e in rw t refl
-      | inr e ↦ ap (λ z. but x k && eqb z r) (sym (tells k l e))
+        | inl e ↦ let t : eqb k x ≡ true = eq-eqb k x e in rw t refl
+        | inr e ↦ ap (λ z. but x k && eqb z r) (sym (tells k l e))
       ])
 
   module _ (c : ℕ) (v : Seat) (own : rack (v .node .0) ≡ v .rack .0) where
@@ -81,20 +82,20 @@ module _ (rack : ℕ → ℕ) (U : ℕ → ℕ → Bool) (N n c : ℕ) (seats : 
   module _ (v : Seat) (own : Own rack U x v) (long : x < length at₁) where
     pub opened : Free n (nodeAt at₁) x (v .node .0) × (loadOf n at₁ x (v .rack .0) < c) → Settled rack U n c (set at₁ x v)
     opened h = record {
-        complete = steps.opened n N 32 c rack U (nodeAt at) x (v .node .0) w₀ (g .ready) (own .0) (nodeAt at₁) (nodeAt (set at₁ x v)) (ap nodeAt e)
+      complete = steps.opened n N 32 c rack U (nodeAt at) x (v .node .0) w₀ (g .ready) (own .0) (nodeAt at₁) (nodeAt (set at₁ x v)) (ap nodeAt e)
           (moved-seat at₁ x v long) (open-told rack n at₁ x again c v (own .1) h);
-        tells = tells-set rack n at₁ x again v long (own .1)
-      }
+      tells = tells-set rack n at₁ x again v long (own .1);
+    }
 
     module _ (taken : Bool) (closed : Closed n c at₁ x v taken) (y : ℕ) (l : y < n) where
       -- the call for the block y that gives way
       pub next : (ne : y ≡ x → ⊥) → gives at₁ taken y v ≡ true → (w m : ℕ) → m ≡ bitOr w (2 ^ y) → Grounded rack U N n c seats (set at₁ x v) y m
       next ne t w m q = record {
-          sits = g .sits;
-          tells = λ k h _. tells-set rack n at₁ x again v long (own .1) k h;
-          ready = steps.ready-next n N 32 c rack U (nodeAt at) x (v .node .0) w₀ (g .ready) (own .0) (nodeAt at₁) (nodeAt (set at₁ x v)) (ap nodeAt e)
-            (moved-seat at₁ x v long) w y m l ne (way-told rack n at₁ x again c v (own .1) taken closed y l ne t) q
-        }
+        sits = g .sits;
+        tells = λ k h _. tells-set rack n at₁ x again v long (own .1) k h;
+        ready = steps.ready-next n N 32 c rack U (nodeAt at) x (v .node .0) w₀ (g .ready) (own .0) (nodeAt at₁) (nodeAt (set at₁ x v)) (ap nodeAt e)
+            (moved-seat at₁ x v long) w y m l ne (way-told rack n at₁ x again c v (own .1) taken closed y l ne t) q;
+      }
 
       pub retried : (w m w′ : ℕ) → Trying n N 32 c rack U (nodeAt at) x (v .node .0) w₀ w y → (y ≡ x → ⊥) → member w y ≡ false
           → gives at₁ taken y v ≡ true → m ≡ bitOr w (2 ^ y) → Failed n N 32 c rack U (nodeAt (set at₁ x v)) y m w′
@@ -108,12 +109,12 @@ module _ (rack : ℕ → ℕ) (U : ℕ → ℕ → Bool) (N n c : ℕ) (seats : 
       skipped w t why =
           steps.skipped n N 32 c rack U (nodeAt at) x (v .node .0) w₀ (nodeAt at₁) (ap nodeAt e) w y t
           (elim (cases-eq y x) [
-            inl q ↦ inl q
-          | inr q ↦ elim why [
-              inl z ↦ inl z
-            | inr z ↦ elim z [
-                inl m ↦ inr (inl m)
-              | inr no′ ↦ inr (inr (way-not rack n at₁ x again c v (own .1) taken closed y l q no′))
+            | inl q ↦ inl q
+            | inr q ↦ elim why [
+              | inl z ↦ inl z
+              | inr z ↦ elim z [
+                | inl m ↦ inr (inl m)
+                | inr no′ ↦ inr (inr (way-not rack n at₁ x again c v (own .1) taken closed y l q no′))
               ]
             ]
           ])
@@ -146,42 +147,44 @@ module _ (rack : ℕ → ℕ) (U : ℕ → ℕ → Bool) (N n c : ℕ) (seats : 
 
   pub found : (w : ℕ) → Failed n N 32 c rack U (nodeAt at) x m w → Crowding rack U N n c w
   found w f = record {
-      within = steps.found-within n N 32 c rack U (nodeAt at) x m w (first .ready) e f;
-      crowded = steps.found-crowded n N 32 c rack U (nodeAt at) x m w (first .ready) e f;
-      least = steps.found-least n N 32 c rack U (nodeAt at) x m w (first .ready) e f
-    }
+    within = steps.found-within n N 32 c rack U (nodeAt at) x m w (first .ready) e f;
+    crowded = steps.found-crowded n N 32 c rack U (nodeAt at) x m w (first .ready) e f;
+    least = steps.found-least n N 32 c rack U (nodeAt at) x m w (first .ready) e f;
+  }
 
 -- one block more
 module _ (rack : ℕ → ℕ) (U : ℕ → ℕ → Bool) (N n c : ℕ) (seats : List Seats) (sized : Sized N 32 rack U) (sits : Sits rack U n seats) where
   pub sits-front : (m : ℕ) → m ≤ n → Sits rack U m seats
   sits-front m l = record {
-      usable = λ i q h. sits .usable i q (omega arith); racked = λ i q h. sits .racked i q (omega arith); listed = λ i q h. sits .listed i q (omega arith)
-    }
+    usable = λ i q h. sits .usable i q (omega arith);
+    racked = λ i q h. sits .racked i q (omega arith);
+    listed = λ i q h. sits .listed i q (omega arith);
+  }
 
   pub none-sits : (at : List Seat) → Settled rack U 0 c at
   unfolding countTo
   none-sits at = record {
-      complete = record { usable = λ i l. absurd (omega arith); distinct = λ i j l. absurd (omega arith); spread = λ r. omega arith };
-      tells = λ k l. absurd (omega arith)
-    }
+    complete = record { usable = λ i l. absurd (omega arith); distinct = λ i j l. absurd (omega arith); spread = λ r. omega arith };
+    tells = λ k l. absurd (omega arith);
+  }
 
   pub one-more : (at : List Seat) (m : ℕ) → m < n → Settled rack U m c at → Placing rack U N (m + 1) c seats at m
   one-more at m l h = record {
-      sized = sized;
-      sits = sits-front (m + 1) (omega arith);
-      tells = λ k j ne. h .tells k (omega arith);
-      partial = rw add-one (partial-next m c rack U (nodeAt at) (h .complete))
-    }
+    sized = sized;
+    sits = sits-front (m + 1) (omega arith);
+    tells = λ k j ne. h .tells k (omega arith);
+    partial = rw add-one (partial-next m c rack U (nodeAt at) (h .complete));
+  }
 
   pub refused : (m w : ℕ) → m < n → Crowding rack U N (m + 1) c w → Refusing rack U N n c w
   refused m w l h = record {
-      none = λ a p. against n a (omega arith) p;
-      last = λ k e a p.
+    none = λ a p. against n a (omega arith) p;
+    last = λ k e a p.
         elim (cases-eq k m) [
-          inl q ↦ subst (λ j. Crowding rack U N j c w) (ap (λ j. j + 1) (sym q) ∙ sym e) h
-        | inr q ↦ absurd (against k a (omega arith) p)
-        ]
-    }
+          | inl q ↦ subst (λ j. Crowding rack U N j c w) (ap (λ j. j + 1) (sym q) ∙ sym e) h
+          | inr q ↦ absurd (against k a (omega arith) p)
+        ];
+  }
     where
       against : (k : ℕ) (a : ℕ → ℕ) → m + 1 ≤ k → Complete k c rack U a → ⊥
       against k a g p =

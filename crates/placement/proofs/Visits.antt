@@ -30,14 +30,14 @@ module _ (s : Site) (c : ℕ) where
       let e : suc left ≡ suc left - 0 = omega arith in ap₂ (λ l t. parity s c l t ws) e (sym (append-nil taken))
   parity-append (suc left) taken (v ∷ vs) ws =
       elim (free s c taken v) as (λ b.
-        cond b (v ∷ parity s c left (taken ++ (v ∷ [])) (vs ++ ws)) (parity s c (suc left) taken (vs ++ ws))
-        ≡ cond b (v ∷ parity s c left (taken ++ (v ∷ [])) vs) (parity s c (suc left) taken vs)
-          ++ parity s c (suc left - length (cond b (v ∷ parity s c left (taken ++ (v ∷ [])) vs) (parity s c (suc left) taken vs))) (taken ++ cond b (v ∷ parity s c left (taken ++ (v ∷ [])) vs) (parity s c (suc left) taken vs)) ws)
-      [ true ↦
-        let p = parity s c left (taken ++ (v ∷ [])) vs in
-        let e : left - length p ≡ suc left - suc (length p) = omega arith in
-        ap (λ l. v ∷ l) (parity-append left (taken ++ (v ∷ [])) vs ws ∙ ap (λ l. p ++ l) (ap₂ (λ l t. parity s c l t ws) e (append-assoc taken (v ∷ []) p)))
-      | false ↦ parity-append (suc left) taken vs ws
+      cond b (v ∷ parity s c left (taken ++ (v ∷ [])) (vs ++ ws)) (parity s c (suc left) taken (vs ++ ws))
+      ≡ cond b (v ∷ parity s c left (taken ++ (v ∷ [])) vs) (parity s c (suc left) taken vs)
+      ++ parity s c (suc left - length (cond b (v ∷ parity s c left (taken ++ (v ∷ [])) vs) (parity s c (suc left) taken vs))) (taken ++ cond b (v ∷ parity s c left (taken ++ (v ∷ [])) vs) (parity s c (suc left) taken vs)) ws) [
+        | true ↦
+            let p = parity s c left (taken ++ (v ∷ [])) vs in
+            let e : left - length p ≡ suc left - suc (length p) = omega arith in
+            ap (λ l. v ∷ l) (parity-append left (taken ++ (v ∷ [])) vs ws ∙ ap (λ l. p ++ l) (ap₂ (λ l t. parity s c l t ws) e (append-assoc taken (v ∷ []) p)))
+        | false ↦ parity-append (suc left) taken vs ws
       ]
 
   -- a visit of some nodes, and then of others
@@ -69,17 +69,17 @@ module _ (s : Site) (taken xs : List ℕ) (l : Loads s taken xs) where
   load-more v k e h = record {
     long = length-set xs k (getD xs k 0 + 1) ∙ l .long;
     counts = λ r b.
-      let push = sumBy-push (λ w. cond (eqb (rackOf s w) r) 1 0) taken v in
-      elim (cases-eq r k) [
-        inl q ↦
-          let t = eq-eqb (rackOf s v) r (e ∙ sym q) in
-          let n : getD xs k 0 ≡ countBy (λ w. eqb (rackOf s w) r) taken = ap (λ j. getD xs j 0) (sym q) ∙ l .counts r b in
-          ap (λ j. getD (set xs k (getD xs k 0 + 1)) j 0) q ∙ (getD-set-same xs k (getD xs k 0 + 1) 0 (omega (arith, l .long)) ∙ (ap₂ (λ a b. a + cond b 1 0) n (sym t) ∙ sym push))
-      | inr q ↦
-          let t = ne-eqb (rackOf s v) r (λ z. q (sym z ∙ e)) in
-          let zero-more : countBy (λ w. eqb (rackOf s w) r) taken ≡ countBy (λ w. eqb (rackOf s w) r) taken + cond (eqb (rackOf s v) r) 1 0 = rw t (omega arith) in
-          getD-set-other xs k r (getD xs k 0 + 1) 0 q ∙ (l .counts r b ∙ (zero-more ∙ sym push))
-      ];
+        let push = sumBy-push (λ w. cond (eqb (rackOf s w) r) 1 0) taken v in
+        elim (cases-eq r k) [
+          | inl q ↦
+              let t = eq-eqb (rackOf s v) r (e ∙ sym q) in
+              let n : getD xs k 0 ≡ countBy (λ w. eqb (rackOf s w) r) taken = ap (λ j. getD xs j 0) (sym q) ∙ l .counts r b in
+              ap (λ j. getD (set xs k (getD xs k 0 + 1)) j 0) q ∙ (getD-set-same xs k (getD xs k 0 + 1) 0 (omega (arith, l .long)) ∙ (ap₂ (λ a b. a + cond b 1 0) n (sym t) ∙ sym push))
+          | inr q ↦
+              let t = ne-eqb (rackOf s v) r (λ z. q (sym z ∙ e)) in
+              let zero-more : countBy (λ w. eqb (rackOf s w) r) taken ≡ countBy (λ w. eqb (rackOf s w) r) taken + cond (eqb (rackOf s v) r) 1 0 = rw t (omega arith) in
+              getD-set-other xs k r (getD xs k 0 + 1) 0 q ∙ (l .counts r b ∙ (zero-more ∙ sym push))
+        ];
   }
 
   -- a node past the last has no rack
@@ -87,9 +87,9 @@ module _ (s : Site) (taken xs : List ℕ) (l : Loads s taken xs) where
   load-pass v e = record {
     long = l .long;
     counts = λ r b.
-      let t = ne-eqb (rackOf s v) r (λ z. omega arith) in
-      let zero-more : countBy (λ w. eqb (rackOf s w) r) taken ≡ countBy (λ w. eqb (rackOf s w) r) taken + cond (eqb (rackOf s v) r) 1 0 = rw t (omega arith) in
-      l .counts r b ∙ (zero-more ∙ sym (sumBy-push (λ w. cond (eqb (rackOf s w) r) 1 0) taken v));
+        let t = ne-eqb (rackOf s v) r (λ z. omega arith) in
+        let zero-more : countBy (λ w. eqb (rackOf s w) r) taken ≡ countBy (λ w. eqb (rackOf s w) r) taken + cond (eqb (rackOf s v) r) 1 0 = rw t (omega arith) in
+        l .counts r b ∙ (zero-more ∙ sym (sumBy-push (λ w. cond (eqb (rackOf s w) r) 1 0) taken v));
   }
 
   -- a yes node is free where it is open
@@ -109,8 +109,8 @@ not-free s c taken v e = ap (λ b. b && (not (has v taken) && ltb (beside s v ta
 pub after-pass : (s : Site) (c n : ℕ) (taken : List ℕ) (v : ℕ) → keeps s v ≡ false → after s c n taken (v ∷ []) ≡ taken
 after-pass s c n taken v e =
     elim (cases-lt (length taken) n) [
-      inl h ↦ after-one s c n taken v h ∙ ap (λ b. cond b (taken ++ v ∷ []) taken) (not-free s c taken v e)
-    | inr h ↦ after-full s c n taken (v ∷ []) h
+      | inl h ↦ after-one s c n taken v h ∙ ap (λ b. cond b (taken ++ v ∷ []) taken) (not-free s c taken v e)
+      | inr h ↦ after-full s c n taken (v ∷ []) h
     ]
 
 -- a visit of a yes node of rack k

@@ -1,6 +1,3 @@
-pub mod Codes
-pub mod Blocks
-pub mod Lists
 pub mod Rooms
 pub mod Seats
 pub mod Resolved

@@ -10,10 +10,10 @@ use Rattle.site.specs.Site.{Site, keeps, rackOf}
 use Rattle.choices.specs.Choice.{Copies, has}
 use Rattle.choices.specs.Hall.{Some-choice}
 use Rattle.choices.specs.Tight.{LeastTight}
-use Rattle.placement.specs.declared.block.Block.{Block}
+use Rattle.blocks.specs.declared.block.Block.{Block}
 use Rattle.placement.specs.declared.seat.Seat.{Seat}
 use Rattle.placement.specs.declared.seat.Seats.{Seats}
-use Rattle.placement.specs.Blocks.{copiesOf}
+use Rattle.blocks.specs.Blocks.{copiesOf}
 use Rattle.placement.specs.Seats.{seatsOf}
 
 abbrev pub listsIn : List Block → List Copies

@@ -5,15 +5,15 @@ ghost use lib.Count.{ones};
 ghost use Rattle.std.specs.Results.{Cases};
 ghost use Rattle.choices.specs.Choice.{choices};
 ghost use Rattle.choices.specs.Hall.{Some-choice};
-ghost use Rattle.placement.specs.Blocks.{copiesOf};
-ghost use Rattle.placement.specs.Lists.{listsOf};
+ghost use Rattle.blocks.specs.Blocks.{copiesOf};
+ghost use Rattle.blocks.specs.Lists.{listsOf};
 ghost use Rattle.placement.specs.Resolved.{Crowded-out};
-use crate::block::Block;
-use crate::lists::Blocks;
 use crate::resolve::resolve;
 use crate::resolve::resolve_all;
 use crate::search::seat_all;
 use crate::seat::Seat;
+use blocks::block::Block;
+use blocks::lists::Blocks;
 use site::Node;
 use site::Rack;
 use site::SiteMap;
@@ -31,7 +31,10 @@ pub fn admit<M: SiteMap>(map: &M, c: u32, blocks: &Blocks, offered: &Block) -> R
     let mut seats = resolve_all(map, blocks.as_slice());
     let n = blocks.len();
     seats[n] = resolve(map, offered);
-    let mut at = [Seat { node: Node(0), rack: Rack(0) }; 17];
+    let mut at = [Seat {
+        node: Node(0),
+        rack: Rack(0),
+    }; 17];
     seat_all(&seats, n + 1, c, &mut at)
 }
 

@@ -1,22 +1,22 @@
 // The first choice: block after block is narrowed to its earliest seat that leaves a choice for all.
 ghost use mathlib.Core.Path.{_≡_};
-ghost use mathlib.Core.Bool.{Bool, true, false};
 ghost use mathlib.Core.List.{List, []};
 ghost use Prim.Native.Nat.{ℕ, _+_, _<_, _≤_};
 ghost use lib.ListN.{length, getD};
+ghost use Rattle.std.specs.Orderings.{When};
 ghost use Rattle.site.specs.Site.{Site};
 ghost use Rattle.choices.specs.Choice.{Copies, Choice, choices};
-ghost use Rattle.choices.specs.Order.{narrow, Narrowing};
+ghost use Rattle.choices.specs.Order.{narrow};
 ghost use Rattle.choices.specs.Plan.{firstOf};
-ghost use Rattle.placement.specs.Lists.{listsOf, nodesOf};
+ghost use Rattle.blocks.specs.Lists.{listsOf, nodesOf};
 ghost use Rattle.placement.specs.Firsts.{placed, Standing, Narrows};
-use crate::lists::Blocks;
-use crate::lists::Nodes;
 use crate::resolve::resolve_all;
 use crate::search::extend;
 use crate::search::seat_all;
 use crate::seat::Seat;
 use crate::seat::Seats;
+use blocks::lists::Blocks;
+use blocks::lists::Nodes;
 use site::Node;
 use site::Rack;
 use site::SiteMap;
@@ -24,9 +24,10 @@ use site::SiteMap;
 // Whether all blocks can sit with block i at its seat j alone; they then do.
 fn try_seat(seats: &mut [Seats], n: usize, c: u32, at: &mut [Seat], i: usize, j: usize) -> bool
     requires { ⌜ n ≤ length (now seats) ⌝ ∗ ⌜ n ≤ length (now at) ⌝ ∗ ⌜ n ≤ 32 ⌝ ∗ ⌜ i < n ⌝ ∗ ⌜ j < 8 ⌝ }
-    ensures yes { λ r. ⌜ (r ≡ true → (s : Site) (ds : List Copies) → Standing s c n ds (now (seats .entry)) (now (at .entry)) → j < length (getD ds i [])
-        → Standing s c n (narrow ds i j) (now (seats .exit)) (now (at .exit))) ⌝ }
-    ensures no { λ r. ⌜ (r ≡ false → (now (seats .exit) ≡ now (seats .entry)) × (now (at .exit) ≡ now (at .entry))
+    ensures { λ r. ⌜ When r
+        ((s : Site) (ds : List Copies) → Standing s c n ds (now (seats .entry)) (now (at .entry)) → j < length (getD ds i [])
+        → Standing s c n (narrow ds i j) (now (seats .exit)) (now (at .exit)))
+        ((now (seats .exit) ≡ now (seats .entry)) × (now (at .exit) ≡ now (at .entry))
         × ((s : Site) (ds : List Copies) → Standing s c n ds (now (seats .entry)) (now (at .entry)) → j < length (getD ds i [])
         → (vs : List ℕ) → Choice s c (narrow ds i j) vs → ⊥)) ⌝ }
 {
@@ -88,7 +89,10 @@ pub fn first_choice<M: SiteMap>(map: &M, c: u32, blocks: &Blocks) -> Nodes
 {
     let mut seats = resolve_all(map, blocks.as_slice());
     let n = blocks.len();
-    let mut at = [Seat { node: Node(0), rack: Rack(0) }; 17];
+    let mut at = [Seat {
+        node: Node(0),
+        rack: Rack(0),
+    }; 17];
     match seat_all(&seats, n, c, &mut at) {
         Ok(()) => {
             settle_all(&mut seats, n, c, &mut at);

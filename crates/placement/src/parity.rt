@@ -3,15 +3,15 @@
 ghost use mathlib.Core.Path.{_≡_};
 ghost use mathlib.Core.Bool.{cond};
 ghost use mathlib.Core.List.{[], _∷_, _++_};
-ghost use Prim.Native.Nat.{ℕ, _+_, _-_, min, _<_, _≤_};
+ghost use Prim.Native.Nat.{_+_, _-_, min, _<_, _≤_};
 ghost use lib.ListN.{length, getD, set, take};
 ghost use Rattle.std.specs.Iters.{counting};
 ghost use Rattle.choices.specs.Plan.{round, parity as parityOf};
-ghost use Rattle.placement.specs.Blocks.{numbers};
-ghost use Rattle.placement.specs.Lists.{nodesOf};
+ghost use Rattle.blocks.specs.Blocks.{numbers};
+ghost use Rattle.blocks.specs.Lists.{nodesOf};
 ghost use Rattle.placement.specs.Plans.{after, Loads, opens};
-use crate::lists::Nodes;
-use crate::lists::PLANNED;
+use blocks::lists::Nodes;
+use blocks::lists::PLANNED;
 use site::Mark;
 use site::Node;
 use site::Rack;
@@ -77,7 +77,15 @@ fn visit<M: SiteMap>(map: &M, c: u32, most: usize, plan: &mut Nodes, loads: &mut
 }
 
 // The nodes from `from` on and below `to` visited.
-fn visit_all<M: SiteMap>(map: &M, c: u32, most: usize, plan: &mut Nodes, loads: &mut [u32], from: u16, to: u16)
+fn visit_all<M: SiteMap>(
+    map: &M,
+    c: u32,
+    most: usize,
+    plan: &mut Nodes,
+    loads: &mut [u32],
+    from: u16,
+    to: u16,
+)
     requires { ⌜ Loads (M·SiteMap .meaning (now map)) (nodesOf (now plan)) (now loads) ⌝ }
     requires { ⌜ most ≤ 24 ⌝ }
     ensures plan { λ _. ⌜ nodesOf (now (plan .exit)) ≡ after (M·SiteMap .meaning (now (map .entry))) c most (nodesOf (now (plan .entry))) (counting from (to - from)) ⌝ }

@@ -1,15 +1,15 @@
 // The plan of a sealed stripe: one kept copy of each block, then the parity nodes.
 ghost use mathlib.Core.Path.{_≡_};
 ghost use mathlib.Core.List.{[]};
-ghost use Prim.Native.Nat.{ℕ, _<_, _≤_};
+ghost use Prim.Native.Nat.{_<_, _≤_};
 ghost use lib.ListN.{length};
 ghost use Rattle.choices.specs.Plan.{planned};
-ghost use Rattle.placement.specs.Lists.{listsOf, nodesOf};
-use crate::code::Code;
+ghost use Rattle.blocks.specs.Lists.{listsOf, nodesOf};
 use crate::first::first_choice;
-use crate::lists::Blocks;
-use crate::lists::Nodes;
 use crate::parity::parity;
+use blocks::code::Code;
+use blocks::lists::Blocks;
+use blocks::lists::Nodes;
 use site::Node;
 use site::SiteMap;
 

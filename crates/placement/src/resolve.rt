@@ -1,14 +1,14 @@
 // Blocks' lists resolved against a map: the only step that asks it, once for each listed node.
 ghost use mathlib.Core.Path.{_≡_};
-ghost use mathlib.Core.List.{List, [], _∷_, _++_};
-ghost use Prim.Native.Nat.{ℕ, _+_, _<_, _≤_};
+ghost use mathlib.Core.List.{[], _∷_, _++_};
+ghost use Prim.Native.Nat.{_+_, _<_, _≤_};
 ghost use lib.ListN.{length};
-ghost use Rattle.placement.specs.Blocks.{copiesOf};
+ghost use Rattle.blocks.specs.Blocks.{copiesOf};
 ghost use Rattle.placement.specs.Seats.{seatsOf};
 ghost use Rattle.placement.specs.Resolved.{seated, listsIn, Resolved};
-use crate::block::Block;
 use crate::seat::Seat;
 use crate::seat::Seats;
+use blocks::block::Block;
 use site::Mark;
 use site::Node;
 use site::Rack;
@@ -18,7 +18,13 @@ impl Seats {
     pub(crate) fn new() -> Seats
         ensures { λ r. ⌜ seatsOf r ≡ [] ⌝ ∗ ⌜ r .len ≡ 0 ⌝ }
     {
-        Seats { at: [Seat { node: Node(0), rack: Rack(0) }; 8], len: 0 }
+        Seats {
+            at: [Seat {
+                node: Node(0),
+                rack: Rack(0),
+            }; 8],
+            len: 0,
+        }
     }
 
     /// One seat alone.
@@ -57,8 +63,9 @@ pub(crate) fn resolve<M: SiteMap>(map: &M, block: &Block) -> Seats
     ensures { λ r. ⌜ seatsOf r ≡ seated (M·SiteMap .meaning (now (map .entry))) (copiesOf (now (block .entry))) ⌝ }
 {
     let mut seats = Seats::new();
-    for i in 0..block.len {
-        ask(map, &mut seats, block.nodes[i]);
+    let nodes = block.nodes();
+    for i in 0..nodes.len() {
+        ask(map, &mut seats, nodes[i]);
     }
     seats
 }

@@ -3,10 +3,10 @@
 ghost use mathlib.Core.Path.{_≡_};
 ghost use mathlib.Core.Bool.{Bool, true, false, _&&_};
 ghost use mathlib.Core.Logic.{_⊎_};
-ghost use Prim.Native.Nat.{ℕ, _+_, _*_, _/_, _^_, _<_, _≤_};
+ghost use Prim.Native.Nat.{ℕ, _+_, _^_, _<_, _≤_};
 ghost use lib.Bits.{bitOr};
 ghost use lib.Dec.{eqb};
-ghost use lib.ListN.{length, getD, set};
+ghost use lib.ListN.{length, set};
 ghost use Rattle.std.specs.Orderings.{When};
 ghost use Rattle.std.specs.Results.{Cases};
 ghost use Rattle.site.specs.Words.{member};
@@ -81,7 +81,11 @@ fn gives_way(at: &[Seat], y: usize, v: Seat, taken: bool) -> bool
     requires { ⌜ y < length (now at) ⌝ }
     ensures { λ r. ⌜ r ≡ gives (now (at .entry)) taken y v ⌝ }
 {
-    if taken { at[y].node.0 == v.node.0 } else { at[y].rack.0 == v.rack.0 }
+    if taken {
+        at[y].node.0 == v.node.0
+    } else {
+        at[y].rack.0 == v.rack.0
+    }
 }
 
 // Whether block x can have the seat v once block y has given up its own, and y was not taken out before.
@@ -97,8 +101,7 @@ fn may_try(at: &[Seat], seen: u32, x: usize, y: usize, v: Seat, taken: bool) -> 
 fn place(seats: &[Seats], n: usize, c: u32, at: &mut [Seat], seen: &mut u32, x: usize) -> bool
     requires { ⌜ n ≤ length (now seats) ⌝ ∗ ⌜ n ≤ length (now at) ⌝ ∗ ⌜ n ≤ 32 ⌝ ∗ ⌜ x < n ⌝ }
     ensures fewer { λ _. ⌜ unseen n (now (seen .exit)) ≤ unseen n (now (seen .entry)) ⌝ }
-    ensures placed { λ r. ⌜ (r ≡ true → Seated n c (now (seats .entry)) (now (at .entry)) x (now (seen .entry)) (now (at .exit))) ⌝ }
-    ensures failed { λ r. ⌜ (r ≡ false → (now (at .exit) ≡ now (at .entry)) × Unseated n c (now (seats .entry)) (now (at .entry)) x (now (seen .entry)) (now (seen .exit))) ⌝ }
+    ensures found { λ r. ⌜ When r (Seated n c (now (seats .entry)) (now (at .entry)) x (now (seen .entry)) (now (at .exit))) ((now (at .exit) ≡ now (at .entry)) × Unseated n c (now (seats .entry)) (now (at .entry)) x (now (seen .entry)) (now (seen .exit))) ⌝ }
 {
     let list = seats[x];
     for i in 0..list.len {
@@ -116,12 +119,20 @@ fn place(seats: &[Seats], n: usize, c: u32, at: &mut [Seat], seen: &mut u32, x: 
 }
 
 // Gives x the seat v, and places the block that gives way, for each block that can.
-fn displace(seats: &[Seats], n: usize, c: u32, at: &mut [Seat], seen: &mut u32, x: usize, v: Seat, taken: bool) -> bool
+fn displace(
+    seats: &[Seats],
+    n: usize,
+    c: u32,
+    at: &mut [Seat],
+    seen: &mut u32,
+    x: usize,
+    v: Seat,
+    taken: bool,
+) -> bool
     requires { ⌜ n ≤ length (now seats) ⌝ ∗ ⌜ n ≤ length (now at) ⌝ ∗ ⌜ n ≤ 32 ⌝ ∗ ⌜ x < n ⌝ }
     requires { ⌜ Closed n c (now at) x v taken ⌝ }
     ensures fewer { λ _. ⌜ unseen n (now (seen .exit)) ≤ unseen n (now (seen .entry)) ⌝ }
-    ensures placed { λ r. ⌜ (r ≡ true → Freed n c (now (seats .entry)) (now (at .entry)) x v (now (seen .entry)) (now (at .exit))) ⌝ }
-    ensures failed { λ r. ⌜ (r ≡ false → (now (at .exit) ≡ now (at .entry)) × Barred n c (now (seats .entry)) (now (at .entry)) x v (now (seen .entry)) (now (seen .exit))) ⌝ }
+    ensures found { λ r. ⌜ When r (Freed n c (now (seats .entry)) (now (at .entry)) x v (now (seen .entry)) (now (at .exit))) ((now (at .exit) ≡ now (at .entry)) × Barred n c (now (seats .entry)) (now (at .entry)) x v (now (seen .entry)) (now (seen .exit))) ⌝ }
 {
     let old = at[x];
     for y in 0..n {
@@ -138,7 +149,13 @@ fn displace(seats: &[Seats], n: usize, c: u32, at: &mut [Seat], seen: &mut u32, 
 }
 
 /// Gives block x, the only one with no seat, one of its own; or gives the least tight set, and leaves all as they sit.
-pub(crate) fn extend(seats: &[Seats], n: usize, c: u32, at: &mut [Seat], x: usize) -> Result<(), u32>
+pub(crate) fn extend(
+    seats: &[Seats],
+    n: usize,
+    c: u32,
+    at: &mut [Seat],
+    x: usize,
+) -> Result<(), u32>
     requires { ⌜ n ≤ length (now seats) ⌝ ∗ ⌜ n ≤ length (now at) ⌝ ∗ ⌜ n ≤ 32 ⌝ ∗ ⌜ x < n ⌝ }
     ensures { λ r. ⌜ Cases r
         (λ _. (rack : ℕ → ℕ) (U : ℕ → ℕ → Bool) (N : ℕ) → Placing rack U N n c (now (seats .entry)) (now (at .entry)) x → Settled rack U n c (now (at .exit)))

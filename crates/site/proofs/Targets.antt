@@ -37,7 +37,7 @@ pub target-twice : (a b : ℕ) (s : Site) → target b (target a s) ≡ target (
 target-twice a b [] = refl
 target-twice a b (p ∷ s) =
     let e : targeted b (targeted a p) ≡ targeted (bitAnd a b) p =
-      ap (λ m. (p .0, m)) (marked-twice (p .1) (member a (p .0 .0)) (member b (p .0 .0)) ∙ ap (marked (p .1)) (sym (member-and a b (p .0 .0)))) in
+    ap (λ m. (p .0, m)) (marked-twice (p .1) (member a (p .0 .0)) (member b (p .0 .0)) ∙ ap (marked (p .1)) (sym (member-and a b (p .0 .0)))) in
     ap₂ (λ q qs. q ∷ qs) e (target-twice a b s)
 
 -- one test over all numbers below n, computed

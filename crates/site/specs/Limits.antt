@@ -44,8 +44,8 @@ pub regular-limits : (racks each : ℕ) → Fit racks each → Limits (regular r
 regular-limits racks each f = record {
   few = rw length-map-counting (f .4);
   racked = all-map (λ p. p .0 .0 < 32) (λ v. (record { 0 = v / each }, Yes)) (counting 0 (racks * each))
-    (all-from-getD (λ v. v / each < 32) (counting 0 (racks * each)) 0
+      (all-from-getD (λ v. v / each < 32) (counting 0 (racks * each)) 0
       (λ i h. let k : i < racks * each = omega (arith, length-counting 0 (racks * each)) in
-        let e : 0 + i ≡ i = omega arith in
-        rw (getD-counting, e) (omega (arith, div-below i each racks (f .2) k, f .1))));
+      let e : 0 + i ≡ i = omega arith in
+      rw (getD-counting, e) (omega (arith, div-below i each racks (f .2) k, f .1))));
 }

@@ -27,10 +27,16 @@ impl<'a> ListedMap<'a> {
     {
         for (i, e) in entries.iter().enumerate() {
             if i == NODES as usize || e.0.0 >= RACKS {
-                return ListedMap { entries, len: i as u16 };
+                return ListedMap {
+                    entries,
+                    len: i as u16,
+                };
             }
         }
-        ListedMap { entries, len: entries.len() as u16 }
+        ListedMap {
+            entries,
+            len: entries.len() as u16,
+        }
     }
 }
 

@@ -30,7 +30,10 @@ impl<M: SiteMap> TargetMap<M> {
     pub fn all(map: M) -> TargetMap<M>
         ensures { λ r. ⌜ target (r .word) (meaning (r .map)) ≡ meaning map ⌝ }
     {
-        TargetMap { map, word: u32::MAX }
+        TargetMap {
+            map,
+            word: u32::MAX,
+        }
     }
 
     /// One map that means what a target map over this one means: the two words are and-ed.
@@ -39,7 +42,10 @@ impl<M: SiteMap> TargetMap<M> {
         ensures means { λ r. ⌜ target (r .word) (meaning (r .map)) ≡ target word (target (self .word) (meaning (self .map))) ⌝ }
     {
         let TargetMap { map, word: own } = self;
-        TargetMap { map, word: own & word }
+        TargetMap {
+            map,
+            word: own & word,
+        }
     }
 }
 

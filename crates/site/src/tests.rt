@@ -61,7 +61,12 @@ fn listed_window() -> Result<(), Fail> {
     check_eq(map.nodes(), 256).note("257 entries")?;
     check_eq(yes_rack(&map, 255), Some(31))?;
     check_eq(yes_rack(&map, 256), None)?;
-    let broken = [(Rack(5), Mark::Yes), (Rack(6), Mark::No), (Rack(32), Mark::Yes), (Rack(7), Mark::Yes)];
+    let broken = [
+        (Rack(5), Mark::Yes),
+        (Rack(6), Mark::No),
+        (Rack(32), Mark::Yes),
+        (Rack(7), Mark::Yes),
+    ];
     let map = ListedMap::new(&broken);
     check_eq(map.nodes(), 2).note("a rack of 32 in the middle")?;
     check_eq(yes_rack(&map, 0), Some(5))?;

@@ -12,8 +12,8 @@ use Rattle.std.specs.declared.option.Option.the-variants.{Some, None}
 use Rattle.std.specs.declared.result.Result.the-variants.{Ok, Err}
 use Rattle.site.specs.Site.{Site}
 use Rattle.choices.specs.Room.{space}
-use Rattle.placement.specs.declared.code.Code.{Code}
-use Rattle.placement.specs.Codes.{Within}
+use Rattle.blocks.specs.declared.code.Code.{Code}
+use Rattle.blocks.specs.Codes.{Within}
 use Rattle.store.specs.declared.types.Answer.the-variants.{Done}
 use Rattle.store.specs.declared.types.Refusal.the-variants.{OutsideLimits, SpaceBelowN}
 use Rattle.store.specs.declared.store.Store.{Store}

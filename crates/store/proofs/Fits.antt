@@ -10,9 +10,9 @@ use Rattle.std.proofs.shelf.Tests.{leb-true, le-leb, eqb-true, eq-eqb, and-part
 use Rattle.std.specs.declared.option.Option.{Option}
 use Rattle.std.specs.declared.option.Option.the-variants.{Some, None}
 use Rattle.choices.specs.Choice.{every}
-use Rattle.placement.specs.declared.code.Code.{Code}
-use Rattle.placement.specs.declared.lists.Blocks.{Blocks}
-use Rattle.placement.specs.declared.lists.Nodes.{Nodes}
+use Rattle.blocks.specs.declared.code.Code.{Code}
+use Rattle.blocks.specs.declared.lists.Blocks.{Blocks}
+use Rattle.blocks.specs.declared.lists.Nodes.{Nodes}
 use Rattle.store.specs.declared.stripe.Stripe.{Stripe}
 use Rattle.store.specs.declared.stripe.Stripe.the-variants.{Empty, Filling, Sealed}
 use Rattle.store.specs.declared.store.Store.{Store}

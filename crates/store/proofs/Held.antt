@@ -10,9 +10,9 @@ use lib.ListN.{length, getD, set}
 use Rattle.std.proofs.shelf.Lists.{map-push, length-map, map-set, getD-map}
 use Rattle.site.specs.Words.{member}
 use Rattle.choices.specs.Choice.{has}
-use Rattle.placement.specs.declared.block.Block.{Block}
-use Rattle.placement.specs.declared.lists.Blocks.{Blocks}
-use Rattle.placement.specs.Lists as list
+use Rattle.blocks.specs.declared.block.Block.{Block}
+use Rattle.blocks.specs.declared.lists.Blocks.{Blocks}
+use Rattle.blocks.specs.Lists as list
 use Rattle.store.specs.declared.stripe.Stripe.{Stripe}
 use Rattle.store.specs.declared.store.Store.{Store}
 use Rattle.store.specs.Stripes as led

@@ -8,7 +8,7 @@ use Rattle.std.proofs.shelf.Lists.{drop-more, drop-all, take-rest}
 use Rattle.std.proofs.shelf.Tests.{ne-eqb, eq-eqb}
 use Rattle.site.specs.declared.Node.{Node}
 use Rattle.choices.specs.Choice.{has, every, apart}
-use Rattle.placement.specs.Blocks.{numbers}
+use Rattle.blocks.specs.Blocks.{numbers}
 
 module _ (vs : List Node) (i : ℕ) (d : Node) (h : i < length vs) where
   pub every-more : (f : ℕ → Bool) → f (getD vs i d .0) ≡ true → every f (numbers (drop (i + 1) vs)) ≡ every f (numbers (drop i vs))

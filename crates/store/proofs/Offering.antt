@@ -24,12 +24,12 @@ use Rattle.choices.specs.Hall.{Some-choice}
 use Rattle.choices.proofs.Head.{empty-or}
 use Rattle.choices.specs.Plan.{planned}
 use Rattle.choices.proofs.Exact.{choices-exact}
-use Rattle.placement.specs.declared.code.Code.{Code}
-use Rattle.placement.specs.declared.block.Block as code
-use Rattle.placement.specs.declared.lists.Blocks.{Blocks}
-use Rattle.placement.specs.declared.lists.Nodes.{Nodes}
-use Rattle.placement.specs.Blocks as told
-use Rattle.placement.specs.Lists as list
+use Rattle.blocks.specs.declared.code.Code.{Code}
+use Rattle.blocks.specs.declared.block.Block as code
+use Rattle.blocks.specs.declared.lists.Blocks.{Blocks}
+use Rattle.blocks.specs.declared.lists.Nodes.{Nodes}
+use Rattle.blocks.specs.Blocks as told
+use Rattle.blocks.specs.Lists as list
 use Rattle.placement.specs.Resolved.{Crowded-out}
 use Rattle.store.specs.declared.types.Answer.{Answer}
 use Rattle.store.specs.declared.types.Refusal.{Refusal}

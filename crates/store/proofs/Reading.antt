@@ -13,10 +13,10 @@ use Rattle.std.specs.declared.option.Option.the-variants.{Some, None}
 use Rattle.std.specs.declared.result.Result.the-variants.{Ok, Err}
 use Rattle.site.specs.Site.{Site}
 use Rattle.choices.specs.Choice.{every}
-use Rattle.placement.specs.declared.code.Code.{Code}
-use Rattle.placement.specs.declared.lists.Blocks.{Blocks}
-use Rattle.placement.specs.declared.lists.Nodes.{Nodes}
-use Rattle.placement.specs.Lists.{nodesOf}
+use Rattle.blocks.specs.declared.code.Code.{Code}
+use Rattle.blocks.specs.declared.lists.Blocks.{Blocks}
+use Rattle.blocks.specs.declared.lists.Nodes.{Nodes}
+use Rattle.blocks.specs.Lists.{nodesOf}
 use Rattle.store.specs.declared.types.Row.{Row}
 use Rattle.store.specs.declared.types.Answer.the-variants.{Rows, Standing}
 use Rattle.store.specs.declared.types.Refusal.the-variants.{NotSealed, FewRows, OffMap}

@@ -8,11 +8,11 @@ use native.Mathlib.Omega.{arith}
 use lib.ListN.{length}
 use Rattle.std.specs.declared.option.Option.{Option}
 use Rattle.std.specs.declared.option.Option.the-variants.{Some, None}
-use Rattle.placement.specs.declared.block.Block.{Block}
-use Rattle.placement.specs.declared.lists.Blocks.{Blocks}
-use Rattle.placement.specs.declared.code.Code.{Code}
-use Rattle.placement.specs.Lists.{blocksOf, nodesOf}
-use Rattle.placement.proofs.Same.{same-blocks, same-nodes, same-code, map-one}
+use Rattle.blocks.specs.declared.block.Block.{Block}
+use Rattle.blocks.specs.declared.lists.Blocks.{Blocks}
+use Rattle.blocks.specs.declared.code.Code.{Code}
+use Rattle.blocks.specs.Lists.{blocksOf, nodesOf}
+use Rattle.blocks.proofs.Same.{same-blocks, same-nodes, same-code, map-one}
 use Rattle.store.specs.declared.stripe.Stripe.{Stripe}
 use Rattle.store.specs.declared.stripe.Stripe.the-variants.{Empty, Filling, Sealed}
 use Rattle.store.specs.declared.store.Store.{Store}

@@ -17,7 +17,7 @@ use Rattle.site.specs.Site.{Site, rackOf}
 use Rattle.choices.specs.Choice.{Copies, every, apart, choices}
 use Rattle.choices.specs.Room.{space}
 use Rattle.choices.specs.Plan.{planned}
-use Rattle.placement.specs.Codes.{Within}
+use Rattle.blocks.specs.Codes.{Within}
 use Rattle.store.specs.Stripes.{Code, Block, Stripe, Ledger, Call, empty, filling, sealed, start, set-up, offer, seal, plan, deletions, standing, release, abandon, blocksOf, isSealed, stripe, copiesOf, core, rest}
 use Rattle.store.specs.Refusals.{none, first, checks, fresh, refusedBy, onMap}
 use Rattle.store.specs.Ledger.{put, noted, codeNoted, step, ledger}

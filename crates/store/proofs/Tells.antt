@@ -12,7 +12,7 @@ use Rattle.std.specs.declared.option.Option.the-variants.{Some, None}
 use Rattle.std.specs.declared.result.Result.{Result}
 use Rattle.std.specs.declared.result.Result.the-variants.{Ok, Err}
 use Rattle.site.specs.Site.{Site}
-use Rattle.placement.specs.declared.code.Code.{Code}
+use Rattle.blocks.specs.declared.code.Code.{Code}
 use Rattle.store.specs.declared.types.Row.{Row}
 use Rattle.store.specs.declared.types.Answer.{Answer}
 use Rattle.store.specs.declared.types.Refusal.{Refusal}

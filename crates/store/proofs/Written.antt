@@ -11,15 +11,15 @@ use Rattle.std.specs.shelf.Maps.{nth}
 use Rattle.std.proofs.shelf.Lists.{append-assoc, append-nil, take-all, set-at, drop-more, map-set, map-push, length-map, length-push, length-append, take-more, length-take-le, take-at, take-append-drop, drop-drop, drop-at, getD-map}
 use Rattle.std.proofs.shelf.Elements.{kept-by-more}
 use Rattle.std.proofs.shelf.Tests.{ne-eqb, eq-eqb}
-use Rattle.placement.specs.declared.lists.Nodes.{Nodes}
-use Rattle.placement.specs.Lists.{nodesOf}
+use Rattle.blocks.specs.declared.lists.Nodes.{Nodes}
+use Rattle.blocks.specs.Lists.{nodesOf}
 use Rattle.std.proofs.shelf.Sums.{sumBy-more, countBy-le-length, length-kept-by}
 use Rattle.std.specs.declared.option.Option.{Option}
 use Rattle.std.specs.declared.option.Option.the-variants.{Some, None}
 use Rattle.site.specs.Site.{Site, rackOf}
 use Rattle.site.specs.declared.Node.{Node}
-use Rattle.placement.specs.Blocks.{numbers, copiesOf}
-use Rattle.placement.specs.declared.block.Block as code
+use Rattle.blocks.specs.Blocks.{numbers, copiesOf}
+use Rattle.blocks.specs.declared.block.Block as code
 use Rattle.store.specs.declared.types.Row.{Row}
 use Rattle.store.specs.Stripes.{Block}
 use Rattle.store.specs.Answers.{Line, shown, lines, dataRows, parityRows, planRows, planRow, goneRows, goneOf}

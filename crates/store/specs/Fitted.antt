@@ -5,7 +5,7 @@ use lib.Dec.{eqb, leb}
 use Rattle.std.specs.declared.option.Option.{Option}
 use Rattle.std.specs.declared.option.Option.the-variants.{Some, None}
 use Rattle.choices.specs.Choice.{every}
-use Rattle.placement.specs.declared.code.Code.{Code}
+use Rattle.blocks.specs.declared.code.Code.{Code}
 use Rattle.store.specs.declared.stripe.Stripe.{Stripe}
 use Rattle.store.specs.declared.stripe.Stripe.the-variants.{Empty, Filling, Sealed}
 

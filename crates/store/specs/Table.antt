@@ -4,11 +4,11 @@ use Prim.Native.Nat.{ℕ}
 use denote.Ref.{now}
 use Rattle.std.specs.declared.option.Option.{Option}
 use Rattle.std.specs.declared.option.Option.the-variants.{Some, None}
-use Rattle.placement.specs.declared.block.Block.{Block}
-use Rattle.placement.specs.declared.lists.Blocks.{Blocks}
-use Rattle.placement.specs.declared.code.Code.{Code}
-use Rattle.placement.specs.Blocks as told
-use Rattle.placement.specs.Lists as list
+use Rattle.blocks.specs.declared.block.Block.{Block}
+use Rattle.blocks.specs.declared.lists.Blocks.{Blocks}
+use Rattle.blocks.specs.declared.code.Code.{Code}
+use Rattle.blocks.specs.Blocks as told
+use Rattle.blocks.specs.Lists as list
 use Rattle.store.specs.declared.stripe.Stripe.{Stripe}
 use Rattle.store.specs.declared.stripe.Stripe.the-variants.{Empty, Filling, Sealed}
 use Rattle.store.specs.declared.store.Store.{Store}

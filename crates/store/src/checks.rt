@@ -7,7 +7,7 @@ ghost use lib.Dec.{eqb};
 ghost use Rattle.site.specs.Site.{rackOf};
 ghost use Rattle.site.specs.Words.{member};
 ghost use Rattle.choices.specs.Choice.{has, apart, every};
-ghost use Rattle.placement.specs.Blocks.{numbers};
+ghost use Rattle.blocks.specs.Blocks.{numbers};
 ghost use Rattle.store.specs.Stripes.{core, rest};
 ghost use Rattle.store.specs.Refusals.{onMap};
 use site::Node;

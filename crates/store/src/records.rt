@@ -4,13 +4,13 @@ ghost use mathlib.Core.List.{[], _∷_, _++_, map};
 ghost use Prim.Native.Nat.{_<_};
 ghost use lib.ListN.{length};
 ghost use Rattle.choices.specs.Choice.{has};
-ghost use Rattle.placement.specs.Lists.{nodesOf};
+ghost use Rattle.blocks.specs.Lists.{nodesOf};
 ghost use Rattle.store.specs.Stripes.{empty, filling, sealed, blocksOf};
 ghost use Rattle.store.specs.Table.{heldOf, heldsOf, stripeOf};
 use crate::stripe::Stripe;
-use placement::block::Block;
-use placement::lists::Blocks;
-use placement::lists::Nodes;
+use blocks::block::Block;
+use blocks::lists::Blocks;
+use blocks::lists::Nodes;
 
 impl Stripe {
     /// Its blocks by position.

@@ -5,7 +5,7 @@ ghost use Rattle.store.specs.Told.{Told};
 use crate::store::Store;
 use crate::types::Answer;
 use crate::types::Refusal;
-use placement::code::Code;
+use blocks::code::Code;
 use placement::room::space;
 use site::SiteMap;
 

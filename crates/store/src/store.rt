@@ -4,7 +4,7 @@ ghost use mathlib.Core.Bool.{true};
 ghost use lib.ListN.{length};
 ghost use Rattle.store.specs.Fitted.{fitted};
 use crate::stripe::Stripe;
-use placement::code::Code;
+use blocks::code::Code;
 use site::SiteMap;
 
 /// No stripe has more than k blocks, a sealed one has k, and all are empty while there is no code.

@@ -1,6 +1,6 @@
 // A rack's stripe record.
-use placement::lists::Blocks;
-use placement::lists::Nodes;
+use blocks::lists::Blocks;
+use blocks::lists::Nodes;
 
 /// Empty, filling with some blocks, or sealed with its blocks and the nodes of its plan.
 #[derive(Clone, Copy)]

@@ -1,7 +1,7 @@
 use native.Mathlib.Omega.{arith}
-use Rattle.placement.specs.Blocks.{copiesOf}
-use Rattle.placement.specs.Lists.{blocksOf, listsOf}
-use Rattle.placement.proofs.Fronts.{length-front}
+use Rattle.blocks.specs.Blocks.{copiesOf}
+use Rattle.blocks.specs.Lists.{blocksOf, listsOf}
+use Rattle.blocks.proofs.Fronts.{length-front}
 use Rattle.placement.proofs.Admits.{offered, listed}
 use Rattle.placement.proofs.admit.admit.Needs as need
 
@@ -12,6 +12,6 @@ returns g c =
     let p = c .args .blocks .now in
     let b = copiesOf (c .args .offered .now) in
     let h = offered s limits (c .args .c) (blocksOf p) b (c .as-slice .result .now) (c .resolve-all-seats .result) (c .resolve .result) (c .len-n .result)
-      (c .as-slice .ensures) (c .len-n .ensures) (omega (arith, c .len-n .ensures, length-front (p .len) 16 (p .at) (p .few) (p .full), p .few))
-      (c .resolve-all-seats .ensures) (c .resolve .ensures) (c .seat-all .last .at) (c .seat-all .result) (c .seat-all .ensures) in
+    (c .as-slice .ensures) (c .len-n .ensures) (omega (arith, c .len-n .ensures, length-front (p .len) 16 (p .at) (p .few) (p .full), p .few))
+    (c .resolve-all-seats .ensures) (c .resolve .ensures) (c .seat-all .last .at) (c .seat-all .result) (c .seat-all .ensures) in
     record { chosen = h; listed = listed s (c .args .c) (listsOf p) b (c .seat-all .result) h }

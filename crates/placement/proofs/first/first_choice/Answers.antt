@@ -8,10 +8,10 @@ use Rattle.std.proofs.shelf.Lists.{length-map}
 use Rattle.site.specs.Site.{keeps}
 use Rattle.choices.specs.Plan.{firstOf}
 use Rattle.choices.proofs.Seats.{seat-choices}
-use Rattle.placement.specs.Blocks.{copiesOf}
-use Rattle.placement.specs.Lists.{blocksOf, listsOf}
+use Rattle.blocks.specs.Blocks.{copiesOf}
+use Rattle.blocks.specs.Lists.{blocksOf, listsOf}
 use Rattle.placement.specs.Resolved.{listsIn, Resolved}
-use Rattle.placement.proofs.Fronts.{length-front}
+use Rattle.blocks.proofs.Fronts.{length-front}
 use Rattle.placement.proofs.Admits.{refused, none-listed}
 use Rattle.placement.proofs.Narrowed.{standing-first}
 use Rattle.placement.proofs.first.first_choice.Needs as need

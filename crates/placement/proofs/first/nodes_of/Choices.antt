@@ -1,5 +1,5 @@
 use mathlib.Core.Path.{_≡_}
-use Rattle.placement.specs.Lists.{nodesOf}
+use Rattle.blocks.specs.Lists.{nodesOf}
 use Rattle.placement.specs.Firsts.{placed}
 use Rattle.placement.proofs.first.nodes_of.Given as given
 

@@ -1,4 +1,4 @@
-use mathlib.Core.Path.{_≡_, sym, subst, _∙_}
+use mathlib.Core.Path.{sym, subst}
 use mathlib.Core.List.{List, [], _∷_, _++_}
 use Prim.Native.Nat.{ℕ, _<_, _+_}
 use native.Mathlib.Omega.{arith}
@@ -6,12 +6,11 @@ use lib.ListN.{length, getD, take}
 use Rattle.std.proofs.shelf.Lists.{map-more, length-map, length-take-le}
 use Rattle.site.specs.declared.Node.{Node}
 use Rattle.site.specs.Site.{Site}
-use Rattle.placement.specs.Blocks.{numbers}
+use Rattle.blocks.specs.Blocks.{numbers}
 use Rattle.placement.specs.Plans.{Loads}
 use Rattle.placement.proofs.Asked.{rack-at, rack-off, racked}
 use Rattle.placement.proofs.Visits.{load-few, load-more, load-pass}
 use Rattle.placement.proofs.parity.load_node.Needs as need
-
 
 on : (s : Site) (vs : List Node) (i : ℕ) (xs : List ℕ) → i < length vs → Loads s (numbers (take i vs) ++ getD vs i (record { 0 = 0 }) .0 ∷ []) xs → Loads s (numbers (take (i + 1) vs)) xs
 on s vs i xs h l = subst (λ t. Loads s t xs) (sym (map-more (λ v. v .0) vs i (record { 0 = 0 }) h)) l

@@ -1,7 +1,6 @@
-use mathlib.Core.Path.{refl, ap, subst}
-use native.Mathlib.Omega.{arith}
+use mathlib.Core.Path.{refl, subst}
 use Rattle.std.proofs.shelf.Lists.{take-all}
-use Rattle.placement.specs.Blocks.{numbers}
+use Rattle.blocks.specs.Blocks.{numbers}
 use Rattle.placement.specs.Plans.{Loads}
 use Rattle.placement.proofs.Visits.{load-none}
 use Rattle.placement.proofs.parity.loads_of.Needs as need

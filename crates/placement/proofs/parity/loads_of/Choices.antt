@@ -1,5 +1,5 @@
 use lib.ListN.{take}
-use Rattle.placement.specs.Blocks.{numbers}
+use Rattle.blocks.specs.Blocks.{numbers}
 use Rattle.placement.specs.Plans.{Loads}
 use Rattle.placement.proofs.parity.loads_of.Given as given
 

@@ -1,10 +1,8 @@
-use mathlib.Core.Path.{_≡_, refl, sym, ap, _∙_}
-use mathlib.Core.Bool.{cond}
-use mathlib.Core.List.{[], _∷_, _++_}
-use Prim.Native.Nat.{_<_, _≤_}
+use mathlib.Core.Path.{refl, sym}
+use Prim.Native.Nat.{_<_}
 use native.Mathlib.Omega.{arith}
 use lib.ListN.{length}
-use Rattle.placement.specs.Lists.{nodesOf}
+use Rattle.blocks.specs.Lists.{nodesOf}
 use Rattle.placement.proofs.Asked.{keeps-yes, keeps-no, keeps-off, rack-at, racked}
 use Rattle.placement.proofs.Visits.{load-few, visited, after-pass}
 use Rattle.placement.proofs.parity.visit.Needs as need

@@ -2,7 +2,7 @@ use mathlib.Core.Path.{_≡_, ap, _∙_}
 use Prim.Native.Nat.{_-_}
 use native.Mathlib.Omega.{arith}
 use Rattle.std.specs.Iters.{counting}
-use Rattle.placement.specs.Lists.{nodesOf}
+use Rattle.blocks.specs.Lists.{nodesOf}
 use Rattle.placement.specs.Plans.{after}
 use Rattle.placement.proofs.Visits.{after-start, after-step}
 use Rattle.placement.proofs.parity.visit_all.Needs as need

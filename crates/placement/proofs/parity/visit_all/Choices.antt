@@ -1,7 +1,7 @@
 use mathlib.Core.Path.{_≡_}
 use Prim.Native.Nat.{_-_, _≤_}
 use Rattle.std.specs.Iters.{counting}
-use Rattle.placement.specs.Lists.{nodesOf}
+use Rattle.blocks.specs.Lists.{nodesOf}
 use Rattle.placement.specs.Plans.{after, Loads}
 use Rattle.placement.proofs.parity.visit_all.Given as given
 

@@ -10,19 +10,19 @@ use Rattle.site.specs.Site.{Site}
 use Rattle.choices.specs.Choice.{Copies, choices}
 use Rattle.choices.specs.Plan.{firstOf, parity, round, planned}
 use Rattle.choices.proofs.Head.{empty-or, empty-none, first-choice}
-use Rattle.placement.specs.Blocks.{copiesOf}
-use Rattle.placement.specs.Lists.{blocksOf, listsOf}
+use Rattle.blocks.specs.Blocks.{copiesOf}
+use Rattle.blocks.specs.Lists.{blocksOf, listsOf}
 use Rattle.placement.proofs.plan.plan.Needs as need
 
 -- a first choice has no more nodes than there are blocks
 kept-few : (s : Site) (c : ℕ) (bs : List Copies) → length (firstOf (choices s c bs)) ≤ length bs
 kept-few s c bs =
     elim (empty-or (choices s c bs)) [
-      inl e ↦ rw e (omega arith)
-    | inr m ↦
-        let e : choices s c bs ≡ m .0 ∷ m .1 = m .2 in
-        let h = first-choice s c bs (λ z. let b : _≡_ {A = ℕ} 0 1 = cc in omega arith) in
-        omega (arith, h .long)
+      | inl e ↦ rw e (omega arith)
+      | inr m ↦
+          let e : choices s c bs ≡ m .0 ∷ m .1 = m .2 in
+          let h = first-choice s c bs (λ z. let b : _≡_ {A = ℕ} 0 1 = cc in omega arith) in
+          omega (arith, h .long)
     ]
 
 -- the room of a plan suffices for the parity of up to k blocks
@@ -46,7 +46,7 @@ returns g c =
     let n : length (listsOf p) ≡ length (blocksOf p) = length-map (blocksOf p) copiesOf in
     record {
       planned = λ l.
-        roomy (g .M·SiteMap .meaning (c .args .map .now)) (q .n) (q .k) (q .c) (listsOf p) (c .args .start .0) _ _ (q .more) (q .few) l
-        (c .first-choice-nodes .ensures) (c .parity .ensures);
-      over = λ l. absurd (omega (arith, c .if-len-code .left, c .len .ensures))
+          roomy (g .M·SiteMap .meaning (c .args .map .now)) (q .n) (q .k) (q .c) (listsOf p) (c .args .start .0) _ _ (q .more) (q .few) l
+          (c .first-choice-nodes .ensures) (c .parity .ensures);
+      over = λ l. absurd (omega (arith, c .if-len-code .left, c .len .ensures));
     }

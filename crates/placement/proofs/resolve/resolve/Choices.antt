@@ -1,7 +1,7 @@
 use mathlib.Core.Path.{_≡_}
 use Prim.Native.Nat.{_≤_}
 use lib.ListN.{take}
-use Rattle.placement.specs.Blocks.{copiesOf}
+use Rattle.blocks.specs.Blocks.{copiesOf}
 use Rattle.placement.specs.Seats.{seatsOf}
 use Rattle.placement.specs.Resolved.{seated}
 use Rattle.placement.proofs.resolve.resolve.Given as given

@@ -1,5 +1,4 @@
 use mathlib.Core.Path.{subst}
-use native.Mathlib.Omega.{arith}
 use Rattle.std.proofs.shelf.Lists.{take-all}
 use Rattle.placement.specs.Resolved.{listsIn, Resolved}
 use Rattle.placement.proofs.Resolves.{resolved-step}

@@ -1,5 +1,4 @@
-use lib.ListN.{take, length}
-use mathlib.Core.Path.{_≡_}
+use lib.ListN.{take}
 use Rattle.placement.specs.Resolved.{listsIn, Resolved}
 use Rattle.placement.proofs.resolve.resolve_all.Given as given
 

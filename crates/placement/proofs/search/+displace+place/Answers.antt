@@ -1,10 +1,9 @@
 use mathlib.Core.Path.{_≡_, refl, sym, ap, subst, _∙_}
 use mathlib.Core.Bool.{Bool}
 use mathlib.Core.List.{List}
-use Prim.Native.Nat.{ℕ, _<_, _≤_}
+use Prim.Native.Nat.{ℕ, _<_}
 use native.Mathlib.Omega.{arith}
-use lib.ListN.{length, set, length-set}
-use Rattle.std.proofs.shelf.Tests.{true≢false, false≢true}
+use lib.ListN.{length, length-set}
 use Rattle.choices.specs.Search.{unseen}
 use Rattle.choices.proofs.Steps.{marks, passed-on}
 use Rattle.placement.specs.declared.seat.Seat.{Seat}
@@ -16,13 +15,12 @@ use Rattle.placement.proofs.search.+displace+place.Needs.{displace-then-may-tr
 pub displace-place-requires : need.displace-place-requires
 displace-place-requires t c κs =
     let h = c .if-may-try .ensures tt .yes refl in
-    let f : unseen (c .args .n) (c .mark .result) < unseen (c .args .n) (c .loop-y .seen) = marks _ _ _ _ (c .loop-y-test .taken) (c .mark .ensures) (h .1) in
-    (
+    let f : unseen (c .args .n) (c .mark .result) < unseen (c .args .n) (c .loop-y .seen) = marks _ _ _ _ (c .loop-y-test .taken) (c .mark .ensures) (h .1) in (
       omega (arith, c .loop-y .inv .0),
       (
         omega (arith, c .pre .0),
-        (rw length-set (omega (arith, c .pre .0, ap length (c .loop-y .inv .1))), (omega (arith, c .pre .0), c .loop-y-test .taken))
-      )
+        (rw length-set (omega (arith, c .pre .0, ap length (c .loop-y .inv .1))), (omega (arith, c .pre .0), c .loop-y-test .taken)),
+      ),
     )
 
 -- the loop's placement is that of the entry
@@ -36,41 +34,38 @@ displace-returns-then-place t c =
     let long : c .args .x < length (c .loop-y .at) = omega (arith, c .pre .0, ap length (c .loop-y .inv .1)) in
     record {
       fewer = omega (arith, c .if-place .ensures tt .fewer, c .loop-y .inv .0);
-      placed = λ _ rack U N g own.
-        c .if-place .ensures tt .placed refl rack U N
-        (seated.next rack U N _ _ _ _ _ _ g _ (c .loop-y .inv .1) _ own long _ (closed _ _ _ _ _ _ _ (c .loop-y .inv .1) (c .pre .1)) _ (c .loop-y-test .taken) (h .0) (h .2) _ _ (c .mark .ensures));
-      failed = λ e. absurd (true≢false e)
+      found = λ rack U N g own.
+          c .if-place .ensures tt .found rack U N
+          (seated.next rack U N _ _ _ _ _ _ g _ (c .loop-y .inv .1) _ own long _ (closed _ _ _ _ _ _ _ (c .loop-y .inv .1) (c .pre .1)) _ (c .loop-y-test .taken) (h .0) (h .2) _ _ (c .mark .ensures));
     }
 
 pub displace-loop-y-again : need.displace-loop-y-again
 displace-loop-y-again t c =
     let long : c .args .x < length (c .loop-y .at) = omega (arith, c .pre .0, ap length (c .loop-y .inv .1)) in
     elim (c .if-may-try .came) [
-      displace-then-may-try·else-place w ↦
-        let h = w .if-may-try .ensures tt .yes refl in
-        let f : unseen (c .args .n) (w .mark .result) < unseen (c .args .n) (c .loop-y .seen) = marks _ _ _ _ (c .loop-y-test .taken) (w .mark .ensures) (h .1) in
-        let k = w .if-place .ensures tt .failed refl in
-        (
-          rw (w .seen-is) (omega (arith, w .if-place .ensures tt .fewer, c .loop-y .inv .0)),
-          w .at-is ∙ seated.restored _ _ _ _ _ (c .loop-y .inv .1) (k .0),
-          λ rack U N g own.
-            rw (w .seen-is)
-            (seated.retried rack U N _ _ _ _ _ _ g _ (c .loop-y .inv .1) _ own long _ (closed _ _ _ _ _ _ _ (c .loop-y .inv .1) (c .pre .1)) _ (c .loop-y-test .taken)
-              _ _ _ (c .loop-y .inv .2 rack U N g own) (h .0) (h .1) (h .2) (w .mark .ensures)
-              (k .1 rack U N
+      | displace-then-may-try·else-place w ↦
+          let h = w .if-may-try .ensures tt .yes refl in
+          let f : unseen (c .args .n) (w .mark .result) < unseen (c .args .n) (c .loop-y .seen) = marks _ _ _ _ (c .loop-y-test .taken) (w .mark .ensures) (h .1) in
+          let k = w .if-place .ensures tt .found in (
+            rw (w .seen-is) (omega (arith, w .if-place .ensures tt .fewer, c .loop-y .inv .0)),
+            w .at-is ∙ seated.restored _ _ _ _ _ (c .loop-y .inv .1) (k .0),
+            λ rack U N g own.
+                rw (w .seen-is)
+                (seated.retried rack U N _ _ _ _ _ _ g _ (c .loop-y .inv .1) _ own long _ (closed _ _ _ _ _ _ _ (c .loop-y .inv .1) (c .pre .1)) _ (c .loop-y-test .taken)
+                _ _ _ (c .loop-y .inv .2 rack U N g own) (h .0) (h .1) (h .2) (w .mark .ensures)
+                (k .1 rack U N
                 (seated.next rack U N _ _ _ _ _ _ g _ (c .loop-y .inv .1) _ own long _ (closed _ _ _ _ _ _ _ (c .loop-y .inv .1) (c .pre .1)) _ (c .loop-y-test .taken)
-                  (h .0) (h .2) _ _ (w .mark .ensures)))),
-        )
-    | displace-else-may-try w ↦
-        let h = w .if-may-try .ensures tt .no refl in
-        (
-          rw (w .seen-is) (c .loop-y .inv .0),
-          w .at-is ∙ c .loop-y .inv .1,
-          λ rack U N g own.
-            rw (w .seen-is)
-            (seated.skipped rack U N _ _ _ _ _ _ g _ (c .loop-y .inv .1) _ own long _ (closed _ _ _ _ _ _ _ (c .loop-y .inv .1) (c .pre .1)) _ (c .loop-y-test .taken)
-              _ (c .loop-y .inv .2 rack U N g own) h),
-        )
+                (h .0) (h .2) _ _ (w .mark .ensures)))),
+          )
+      | displace-else-may-try w ↦
+          let h = w .if-may-try .ensures tt .no refl in (
+            rw (w .seen-is) (c .loop-y .inv .0),
+            w .at-is ∙ c .loop-y .inv .1,
+            λ rack U N g own.
+                rw (w .seen-is)
+                (seated.skipped rack U N _ _ _ _ _ _ g _ (c .loop-y .inv .1) _ own long _ (closed _ _ _ _ _ _ _ (c .loop-y .inv .1) (c .pre .1)) _ (c .loop-y-test .taken)
+                _ (c .loop-y .inv .2 rack U N g own) h),
+          )
     ]
 
 pub displace-returns : need.displace-returns
@@ -78,11 +73,12 @@ displace-returns t c =
     let long : c .args .x < length (c .loop-y .at) = omega (arith, c .pre .0, ap length (c .loop-y .inv .1)) in
     record {
       fewer = c .loop-y .inv .0;
-      placed = λ e. absurd (false≢true e);
-      failed = λ _. (c .loop-y .inv .1,
+      found = (
+        c .loop-y .inv .1,
         λ rack U N g own.
-          seated.tried rack U N _ _ _ _ _ _ g _ (c .loop-y .inv .1) _ own long _ (closed _ _ _ _ _ _ _ (c .loop-y .inv .1) (c .pre .1)) _ (c .loop-y .y)
-          (c .loop-y .inv .2 rack U N g own) (c .loop-y-test .left))
+            seated.tried rack U N _ _ _ _ _ _ g _ (c .loop-y .inv .1) _ own long _ (closed _ _ _ _ _ _ _ (c .loop-y .inv .1) (c .pre .1)) _ (c .loop-y .y)
+            (c .loop-y .inv .2 rack U N g own) (c .loop-y-test .left),
+      );
     }
 
 pub place-returns-then-open : need.place-returns-then-open
@@ -91,11 +87,10 @@ place-returns-then-open t c =
     let inside : c .args .x < c .args .n = omega (arith, c .pre) in
     record {
       fewer = c .loop-i .inv .0;
-      placed = λ _ rack U N g.
-        seated.opened rack U N _ _ _ _ _ _ g _ (c .loop-i .inv .1) _
-        (seated.own-seat rack U N _ _ _ _ _ _ g (c .index-seats-x .result) inside (c .index-seats-x .is) (c .loop-i .i) (c .loop-i-test .taken)) long
-        (c .if-open .ensures tt .yes refl);
-      failed = λ e. absurd (true≢false e)
+      found = λ rack U N g.
+          seated.opened rack U N _ _ _ _ _ _ g _ (c .loop-i .inv .1) _
+          (seated.own-seat rack U N _ _ _ _ _ _ g (c .index-seats-x .result) inside (c .index-seats-x .is) (c .loop-i .i) (c .loop-i-test .taken)) long
+          (c .if-open .ensures tt .yes refl);
     }
 
 pub place-returns-then-displace : need.place-returns-then-displace
@@ -103,23 +98,21 @@ place-returns-then-displace t c =
     let inside : c .args .x < c .args .n = omega (arith, c .pre) in
     record {
       fewer = omega (arith, c .if-displace .ensures tt .fewer, c .loop-i .inv .0);
-      placed = λ _ rack U N g.
-        c .if-displace .ensures tt .placed refl rack U N
-        (seated.same rack U N _ _ _ _ _ _ g _ (c .loop-i .inv .1) _ (c .loop-i .inv .2 rack U N g .grown))
-        (seated.own-seat rack U N _ _ _ _ _ _ g (c .index-seats-x .result) inside (c .index-seats-x .is) (c .loop-i .i) (c .loop-i-test .taken));
-      failed = λ e. absurd (true≢false e)
+      found = λ rack U N g.
+          c .if-displace .ensures tt .found rack U N
+          (seated.same rack U N _ _ _ _ _ _ g _ (c .loop-i .inv .1) _ (c .loop-i .inv .2 rack U N g .grown))
+          (seated.own-seat rack U N _ _ _ _ _ _ g (c .index-seats-x .result) inside (c .index-seats-x .is) (c .loop-i .i) (c .loop-i-test .taken));
     }
 
 pub place-loop-i-again : need.place-loop-i-again
 place-loop-i-again t c =
     let inside : c .args .x < c .args .n = omega (arith, c .pre) in
-    let k = c .if-displace .ensures tt .failed refl in
-    (
+    let k = c .if-displace .ensures tt .found in (
       omega (arith, c .if-displace .ensures tt .fewer, c .loop-i .inv .0),
       k .0 ∙ c .loop-i .inv .1,
       λ rack U N g.
-        passed-on (c .args .n) N 32 (c .args .c) rack U (nodeAt (c .args .at .now)) (c .args .x) (nodeAt (c .index-seats-x .result .at)) (c .args .seen .now) (c .loop-i .seen) _ (c .loop-i .i) (nodeAt (c .loop-i .at)) (ap nodeAt (c .loop-i .inv .1)) (c .loop-i .inv .2 rack U N g)
-        (k .1 rack U N (seated.same rack U N _ _ _ _ _ _ g _ (c .loop-i .inv .1) _ (c .loop-i .inv .2 rack U N g .grown))
+          passed-on (c .args .n) N 32 (c .args .c) rack U (nodeAt (c .args .at .now)) (c .args .x) (nodeAt (c .index-seats-x .result .at)) (c .args .seen .now) (c .loop-i .seen) _ (c .loop-i .i) (nodeAt (c .loop-i .at)) (ap nodeAt (c .loop-i .inv .1)) (c .loop-i .inv .2 rack U N g)
+          (k .1 rack U N (seated.same rack U N _ _ _ _ _ _ g _ (c .loop-i .inv .1) _ (c .loop-i .inv .2 rack U N g .grown))
           (seated.own-seat rack U N _ _ _ _ _ _ g (c .index-seats-x .result) inside (c .index-seats-x .is) (c .loop-i .i) (c .loop-i-test .taken))),
     )
 
@@ -128,7 +121,8 @@ place-returns t c =
     let inside : c .args .x < c .args .n = omega (arith, c .pre) in
     record {
       fewer = c .loop-i .inv .0;
-      placed = λ e. absurd (false≢true e);
-      failed = λ _. (c .loop-i .inv .1,
-        λ rack U N g. seated.passed rack U N _ _ _ _ _ _ g (c .index-seats-x .result) inside (c .index-seats-x .is) _ (c .loop-i .i) (c .loop-i .inv .2 rack U N g) (c .loop-i-test .left))
+      found = (
+        c .loop-i .inv .1,
+        λ rack U N g. seated.passed rack U N _ _ _ _ _ _ g (c .index-seats-x .result) inside (c .index-seats-x .is) _ (c .loop-i .i) (c .loop-i .inv .2 rack U N g) (c .loop-i-test .left),
+      );
     }

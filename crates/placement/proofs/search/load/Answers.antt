@@ -26,6 +26,6 @@ same p n y e t = e ∙ sym (count-no y p t)
 pub loop-y-again : need.loop-y-again
 loop-y-again c =
     elim (c .if-lies .came) [
-      then-lies w ↦ rw (w .m-is) (more _ _ _ (c .loop-y .inv) (sym (c .lies .ensures) ∙ w .if-lies .taken))
-    | else-lies w ↦ rw (w .m-is) (same _ _ _ (c .loop-y .inv) (sym (c .lies .ensures) ∙ w .if-lies .left))
+      | then-lies w ↦ rw (w .m-is) (more _ _ _ (c .loop-y .inv) (sym (c .lies .ensures) ∙ w .if-lies .taken))
+      | else-lies w ↦ rw (w .m-is) (same _ _ _ (c .loop-y .inv) (sym (c .lies .ensures) ∙ w .if-lies .left))
     ]

@@ -1,7 +1,7 @@
 use mathlib.Core.Path.{_≡_}
 use lib.ListN.{drop}
 use Rattle.choices.specs.Choice.{apart}
-use Rattle.placement.specs.Blocks.{numbers}
+use Rattle.blocks.specs.Blocks.{numbers}
 use Rattle.store.proofs.checks.all_differ.Given as given
 
 abbrev pub Inv-loop-i : given.InvT-loop-i

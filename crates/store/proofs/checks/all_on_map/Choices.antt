@@ -1,7 +1,7 @@
 use mathlib.Core.Path.{_≡_}
 use lib.ListN.{drop}
 use Rattle.choices.specs.Choice.{every}
-use Rattle.placement.specs.Blocks.{numbers}
+use Rattle.blocks.specs.Blocks.{numbers}
 use Rattle.store.specs.Refusals.{onMap}
 use Rattle.store.proofs.checks.all_on_map.Given as given
 

@@ -4,7 +4,7 @@ use lib.Dec.{eqb}
 use lib.ListN.{drop}
 use Rattle.site.specs.Site.{rackOf}
 use Rattle.choices.specs.Choice.{every}
-use Rattle.placement.specs.Blocks.{numbers}
+use Rattle.blocks.specs.Blocks.{numbers}
 use Rattle.store.proofs.checks.all_outside.Given as given
 
 abbrev pub Inv-loop-v : given.InvT-loop-v

@@ -1,7 +1,7 @@
 use mathlib.Core.Path.{_≡_}
 use lib.ListN.{drop}
 use Rattle.choices.specs.Choice.{has}
-use Rattle.placement.specs.Blocks.{numbers}
+use Rattle.blocks.specs.Blocks.{numbers}
 use Rattle.store.proofs.checks.among.Given as given
 
 abbrev pub Inv-loop-w : given.InvT-loop-w

@@ -1,6 +1,6 @@
 use mathlib.Core.Path.{sym, ap, _∙_}
 use Rattle.store.specs.Stripes.{core}
-use Rattle.placement.specs.Blocks.{numbers}
+use Rattle.blocks.specs.Blocks.{numbers}
 use Rattle.std.proofs.shelf.Lists.{nil-from-length}
 use native.Mathlib.Omega.{arith}
 use Rattle.store.proofs.Offering.{core-is}

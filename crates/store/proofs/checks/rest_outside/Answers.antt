@@ -5,7 +5,7 @@ use Rattle.std.proofs.shelf.Lists.{nil-from-length}
 use native.Mathlib.Omega.{arith}
 use Rattle.site.specs.Site.{rackOf}
 use Rattle.choices.specs.Choice.{every}
-use Rattle.placement.specs.Blocks.{numbers}
+use Rattle.blocks.specs.Blocks.{numbers}
 use Rattle.store.specs.Stripes.{rest}
 use Rattle.store.proofs.Offering.{rest-is}
 use Rattle.store.proofs.checks.rest_outside.Needs as need

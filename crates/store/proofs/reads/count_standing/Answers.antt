@@ -7,8 +7,8 @@ use Rattle.std.proofs.shelf.Lists.{length-map, take-all}
 use Rattle.site.specs.Site.{rackOf}
 use Rattle.site.specs.Words.{member}
 use Rattle.choices.specs.Choice.{has}
-use Rattle.placement.specs.Blocks.{numbers}
-use Rattle.placement.specs.Lists.{nodesOf}
+use Rattle.blocks.specs.Blocks.{numbers}
+use Rattle.blocks.specs.Lists.{nodesOf}
 use Rattle.choices.specs.Survive.{stand}
 use Rattle.store.proofs.Written.{node-at, count-more, nodes-few, slice-long}
 use Rattle.store.proofs.reads.count_standing.Needs as need

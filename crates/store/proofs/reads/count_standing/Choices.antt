@@ -1,8 +1,8 @@
 use mathlib.Core.Path.{_≡_}
 use Prim.Native.Nat.{_≤_}
 use lib.ListN.{take}
-use Rattle.placement.specs.Blocks.{numbers}
-use Rattle.placement.specs.Lists.{nodesOf}
+use Rattle.blocks.specs.Blocks.{numbers}
+use Rattle.blocks.specs.Lists.{nodesOf}
 use Rattle.choices.specs.Survive.{stand}
 use Rattle.store.proofs.reads.count_standing.Given as given
 

@@ -2,7 +2,7 @@ use mathlib.Core.Path.{sym, ap, _∙_}
 use native.Mathlib.Omega.{arith}
 use Prim.Native.Nat.{_+_, _-_}
 use Rattle.site.specs.Site.{rackOf}
-use Rattle.placement.specs.Lists.{blocksOf}
+use Rattle.blocks.specs.Lists.{blocksOf}
 use Rattle.store.proofs.Written.{row-data, row-parity, past}
 use Rattle.store.proofs.rows.planned_row.Needs as need
 

@@ -2,8 +2,8 @@ use mathlib.Core.Path.{_≡_}
 use Prim.Native.Nat.{_-_, _*_, _≤_}
 use lib.ListN.{length, take}
 use Rattle.std.specs.shelf.Lists.{sumBy}
-use Rattle.placement.specs.Blocks.{copiesOf}
-use Rattle.placement.specs.Lists.{blocksOf}
+use Rattle.blocks.specs.Blocks.{copiesOf}
+use Rattle.blocks.specs.Lists.{blocksOf}
 use Rattle.store.proofs.rows.spare_copies.Given as given
 
 abbrev pub Inv-loop-block : given.InvT-loop-block

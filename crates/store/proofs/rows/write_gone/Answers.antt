@@ -4,7 +4,7 @@ use Prim.Native.Nat.{_+_, _<_}
 use native.Mathlib.Omega.{arith}
 use lib.ListN.{length, getD, take, drop}
 use Rattle.std.proofs.shelf.Lists.{take-all, length-append, append-nil}
-use Rattle.placement.specs.Lists.{nodesOf, blocksOf}
+use Rattle.blocks.specs.Lists.{nodesOf, blocksOf}
 use Rattle.store.specs.Answers.{lines, goneOf, goneRows}
 use Rattle.store.specs.Table.{heldOf, heldsOf}
 use Rattle.store.proofs.Written.{gone-first, gone-next, gone-some, gone-past, gone-more, gone-length, node-at, slice-long, nodes-few}

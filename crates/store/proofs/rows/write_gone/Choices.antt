@@ -2,7 +2,7 @@ use mathlib.Core.Path.{_≡_}
 use mathlib.Core.List.{_++_}
 use Prim.Native.Nat.{_*_, _≤_}
 use lib.ListN.{length, take, drop}
-use Rattle.placement.specs.Lists.{nodesOf}
+use Rattle.blocks.specs.Lists.{nodesOf}
 use Rattle.store.specs.Answers.{lines, goneRows}
 use Rattle.store.specs.Table.{heldsOf}
 use Rattle.store.proofs.rows.write_gone.Given as given

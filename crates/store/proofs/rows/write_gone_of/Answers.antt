@@ -8,7 +8,7 @@ use lib.ListN.{length, getD, take, drop}
 use Rattle.std.specs.shelf.Lists.{kept-by}
 use Rattle.std.proofs.shelf.Lists.{take-all}
 use Rattle.site.specs.Site.{rackOf}
-use Rattle.placement.specs.Blocks.{copiesOf}
+use Rattle.blocks.specs.Blocks.{copiesOf}
 use Rattle.store.specs.Answers.{lines, goneOf}
 use Rattle.store.specs.Table.{heldOf}
 use Rattle.store.proofs.Written.{goneTo, gone-start, gone-put, gone-stay, node-at, slice-long, copies-length}

@@ -2,7 +2,7 @@ use mathlib.Core.Path.{_≡_}
 use mathlib.Core.List.{_++_}
 use Prim.Native.Nat.{_+_, _≤_}
 use lib.ListN.{length, take, drop}
-use Rattle.placement.specs.Blocks.{copiesOf}
+use Rattle.blocks.specs.Blocks.{copiesOf}
 use Rattle.store.specs.Answers.{lines}
 use Rattle.store.proofs.Written.{goneTo}
 use Rattle.store.proofs.rows.write_gone_of.Given as given

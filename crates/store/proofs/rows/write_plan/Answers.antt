@@ -4,7 +4,7 @@ use Prim.Native.Nat.{_<_}
 use native.Mathlib.Omega.{arith}
 use lib.ListN.{length, take, drop}
 use Rattle.std.proofs.shelf.Lists.{take-all}
-use Rattle.placement.specs.Lists.{nodesOf}
+use Rattle.blocks.specs.Lists.{nodesOf}
 use Rattle.store.specs.Answers.{planRow, planRows, lines}
 use Rattle.store.specs.Table.{heldsOf}
 use Rattle.store.proofs.Written.{node-at, plan-none, plan-more, plan-length, nodes-few, slice-long}

@@ -2,7 +2,7 @@ use mathlib.Core.Path.{_≡_}
 use mathlib.Core.List.{_++_}
 use Prim.Native.Nat.{_≤_}
 use lib.ListN.{length, take, drop}
-use Rattle.placement.specs.Lists.{nodesOf}
+use Rattle.blocks.specs.Lists.{nodesOf}
 use Rattle.store.specs.Answers.{lines, planRows}
 use Rattle.store.specs.Table.{heldsOf}
 use Rattle.store.proofs.rows.write_plan.Given as given

@@ -7,9 +7,9 @@ use Rattle.site.proofs.listed.ListedMap.new.Needs.{then-i·by·then-i, then-i�
 pub ghost-result : need.ghost-result
 ghost-result c =
     elim (c .then-i .came) [
-      then-i·by·then-i w ↦ (omega (arith, window-few 256 (c .args .entries .now), w .if-i .taken), tt)
-    | then-i·by·else-i·then-e-ge-RACKS w ↦
-        (omega (arith, window-stop 256 (c .args .entries .now) (c .loop-i .i) _ (c .loop-i-test .taken) (w .if-e-ge-RACKS .taken)), tt)
+      | then-i·by·then-i w ↦ (omega (arith, window-few 256 (c .args .entries .now), w .if-i .taken), tt)
+      | then-i·by·else-i·then-e-ge-RACKS w ↦
+          (omega (arith, window-stop 256 (c .args .entries .now) (c .loop-i .i) _ (c .loop-i-test .taken) (w .if-e-ge-RACKS .taken)), tt)
     ]
 
 pub loop-i-again : need.loop-i-again

@@ -5,8 +5,8 @@ use native.Mathlib.Omega.{arith}
 use lib.ListN.{length, getD}
 use Rattle.std.proofs.shelf.Lists.{length-push}
 use Rattle.choices.specs.Choice.{choices}
-use Rattle.placement.specs.Blocks.{copiesOf}
-use Rattle.placement.specs.Lists.{listsOf}
+use Rattle.blocks.specs.Blocks.{copiesOf}
+use Rattle.blocks.specs.Lists.{listsOf}
 use Rattle.placement.specs.Resolved.{Crowded-out}
 use Rattle.store.specs.declared.types.Answer.the-variants.{Position}
 use Rattle.store.specs.Stripes as led

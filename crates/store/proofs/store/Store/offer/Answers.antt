@@ -7,7 +7,7 @@ use lib.Dec.{eqb}
 use lib.ListN.{length}
 use Rattle.site.specs.Site.{Site, rackOf}
 use Rattle.choices.specs.Choice.{every}
-use Rattle.placement.specs.Blocks.{numbers}
+use Rattle.blocks.specs.Blocks.{numbers}
 use Rattle.store.specs.Stripes as led
 use Rattle.store.specs.Table.{heldOf, stripeOf, ledgerOf}
 use Rattle.store.proofs.Held.{stripe-at, helds-length}

@@ -4,8 +4,8 @@ use Prim.Native.Nat.{_≤_, _<_}
 use native.Mathlib.Omega.{arith}
 use lib.ListN.{length, getD}
 use Rattle.std.proofs.shelf.Lists.{length-map}
-use Rattle.placement.specs.Blocks.{copiesOf}
-use Rattle.placement.specs.Lists.{blocksOf}
+use Rattle.blocks.specs.Blocks.{copiesOf}
+use Rattle.blocks.specs.Lists.{blocksOf}
 use Rattle.store.specs.declared.types.Answer.the-variants.{Done}
 use Rattle.store.specs.Stripes as led
 use Rattle.store.specs.Table.{heldsOf, stripeOf}

@@ -1,5 +1,5 @@
 use mathlib.Core.Path.{refl, sym}
-use Rattle.placement.specs.Blocks.{numbers}
+use Rattle.blocks.specs.Blocks.{numbers}
 use Rattle.store.proofs.Reading.{standing-unsealed, standing-told}
 use Rattle.store.proofs.store.Store.standing.Needs as need
 

@@ -1,5 +1,5 @@
 use mathlib.Core.Path.{ap}
-use Rattle.placement.specs.Lists.{blocksOf}
+use Rattle.blocks.specs.Lists.{blocksOf}
 use Rattle.store.specs.Stripes as led
 use Rattle.store.specs.Table.{stripeOf}
 use Rattle.store.proofs.Held.{pushed}

@@ -1,0 +1,9 @@
+pub mod GlueLaws
+pub mod LineLaws
+pub mod NodeListExact
+pub mod NodeListLaws
+pub mod NumberLaws
+pub mod OrderExact
+pub mod OrderLaws
+pub mod PieceLaws
+pub mod TextLaws

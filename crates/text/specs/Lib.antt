@@ -1,0 +1,9 @@
+pub mod Cells
+pub mod Faults
+pub mod NodeLists
+pub mod Numbers
+pub mod Orders
+pub mod Pieces
+pub mod Rows
+pub mod Spaced
+pub mod Texts
