@@ -34,7 +34,13 @@ fn put_fault(rt: &LibcRuntime, fault: RunFault, buffer: &mut [u8]) -> io::Result
 }
 
 // The answers to the calls, at a store over the map.
-fn put_answers<M: SiteMap + Drop>(rt: &LibcRuntime, map: M, lines: Lines<'_>, code: CodeValues, buffer: &mut [u8]) -> io::Result<()> {
+fn put_answers<M: SiteMap + Drop>(
+    rt: &LibcRuntime,
+    map: M,
+    lines: Lines<'_>,
+    code: CodeValues,
+    buffer: &mut [u8],
+) -> io::Result<()> {
     let mut run = Run::new(map, lines);
     if let Err(fault) = run.begin(code) {
         return put_fault(rt, fault, buffer);
@@ -57,7 +63,13 @@ pub fn print_answers(rt: &LibcRuntime, sheet: &[u8]) -> io::Result<()> {
     let mut table = [(Rack(0), Mark::No); TABLE];
     let mut lines = Lines::new(b"");
     match open_run(sheet, &mut lines, &mut table) {
-        Ok(opening) => put_answers(rt, sheet_map(opening, &table), lines, opening.head.code, &mut buffer),
+        Ok(opening) => put_answers(
+            rt,
+            sheet_map(opening, &table),
+            lines,
+            opening.head.code,
+            &mut buffer,
+        ),
         Err(fault) => put_fault(rt, fault, &mut buffer),
     }
 }

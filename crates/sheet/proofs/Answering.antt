@@ -72,7 +72,7 @@ away-from s r = all-every (λ v. not (eqb (rackOf s v) r)) (λ v. rackOf s v ≡
 
 -- where 24 is told, the block was due and there is no choice
 pub due-at : (s : Site) (o : Code) (l : Ledger) (b : ℕ) (vs : Copies) → first (checks s o l (offer b vs)) ≡ Some 24
-  → Due s o l b vs × ((us : List ℕ) → Choice s (o .c) (together s l vs) us → ⊥)
+    → Due s o l b vs × ((us : List ℕ) → Choice s (o .c) (together s l vs) us → ⊥)
 due-at s o l b vs e =
     let own = blocksOf (stripe l (core s vs)) in
     let t24 : List (Bool × ℕ) = (none (choices s (o .c) (together s l vs)), 24) ∷ [] in
@@ -88,19 +88,20 @@ due-at s o l b vs e =
     let p22 = next-one (holds (l .stripes) b) 22 24 t23 refl (p6 .1) in
     let p23 = next-one (leb (o .k) (length own)) 23 24 t24 refl (p22 .1) in
     let p24 = last-one (none (choices s (o .c) (together s l vs))) 24 24 (p23 .1) in
-    let long = or-parts (ltb (length vs) 2) (ltb 8 (length vs)) (p3 .0) in
-    (record {
-       formed = record {
-         enough = ltb-false (length vs) 2 (long .0);
-         few = ltb-false 8 (length vs) (long .1);
-         present = all-every (onMap s) (λ v. v < length s) (λ v t. ltb-true v (length s) t) vs (not-false (every (onMap s) vs) (p4 .0));
-         differ = not-false (apart vs) (p5 .0);
-         away = away-from s (core s vs) (rest vs) (not-false (every (λ v. not (eqb (rackOf s v) (core s vs))) (rest vs)) (p6 .0));
-       };
-       new = p22 .0;
-       below = leb-false (o .k) (length own) (p23 .0);
-     },
-     no-choice s (o .c) (together s l vs) p24)
+    let long = or-parts (ltb (length vs) 2) (ltb 8 (length vs)) (p3 .0) in (
+      record {
+        formed = record {
+          enough = ltb-false (length vs) 2 (long .0);
+          few = ltb-false 8 (length vs) (long .1);
+          present = all-every (onMap s) (λ v. v < length s) (λ v t. ltb-true v (length s) t) vs (not-false (every (onMap s) vs) (p4 .0));
+          differ = not-false (apart vs) (p5 .0);
+          away = away-from s (core s vs) (rest vs) (not-false (every (λ v. not (eqb (rackOf s v) (core s vs))) (rest vs)) (p6 .0));
+        };
+        new = p22 .0;
+        below = leb-false (o .k) (length own) (p23 .0);
+      },
+      no-choice s (o .c) (together s l vs) p24,
+    )
 
 abbrev refusedWith : Site → Ledger → Call → Option Code → Option ℕ
 refusedWith s l call code = elim code [ None ↦ first (fresh s call) | Some o ↦ first (checks s o l call) ]
@@ -110,7 +111,7 @@ KeptAt s l call r before after = (o : Code) → l .code ≡ Some o → Kept s o 
 
 -- the word that comes with 24
 named-word : (s : Site) (o : Code) (l : Ledger) (b : ℕ) (vs : Copies) (r : Result Answer Refusal) (before after : List Row) (u : ℕ)
-  → Kept s o l (offer b vs) r before after → first (checks s o l (offer b vs)) ≡ Some 24 → r ≡ Err (NoChoice u) → u ≡ crowd s (o .c) (together s l vs)
+    → Kept s o l (offer b vs) r before after → first (checks s o l (offer b vs)) ≡ Some 24 → r ≡ Err (NoChoice u) → u ≡ crowd s (o .c) (together s l vs)
 named-word s o l b vs r before after u kept e told =
     let d = due-at s o l b vs e in
     let n = kept .names b vs refl (d .0) (d .1) in
@@ -119,7 +120,7 @@ named-word s o l b vs r before after u kept e told =
 
 -- and no other call has 24
 crowd-with : (s : Site) (l : Ledger) (call : Call) (r : Result Answer Refusal) (before after : List Row) (u : ℕ) → KeptAt s l call r before after
-  → r ≡ Err (NoChoice u) → (code : Option Code) → l .code ≡ code → refusedWith s l call code ≡ Some 24 → u ≡ crowdOf s l call
+    → r ≡ Err (NoChoice u) → (code : Option Code) → l .code ≡ code → refusedWith s l call code ≡ Some 24 → u ≡ crowdOf s l call
 unfolding KeptAt
 crowd-with s l (set-up n k c) r before after u kept told None same e = absurd (not-among (fresh s (set-up n k c)) 24 refl e)
 crowd-with s l (offer b vs) r before after u kept told None same e = absurd (not-among (fresh s (offer b vs)) 24 refl e)
@@ -164,22 +165,23 @@ answerWith s l call told = elim told [ None ↦ Ok (accepted s l call) | Some q 
 
 abbrev pub AnsweredWith : Site → Ledger → Call → Result Answer Refusal → List Row → List Row → Option ℕ → Type 0
 AnsweredWith s l call r before after told = elim told [
-    Some q ↦ ((e : Refusal) × (r ≡ Err e) × (numberOf e ≡ q)) × (after ≡ before)
-  | None ↦ (r ≡ Ok (accepted s l call)) × (map shown after ≡ written s l call ++ map shown (drop (length (written s l call)) before)) ]
+  | Some q ↦ ((e : Refusal) × (r ≡ Err e) × (numberOf e ≡ q)) × (after ≡ before)
+  | None ↦ (r ≡ Ok (accepted s l call)) × (map shown after ≡ written s l call ++ map shown (drop (length (written s l call)) before))
+]
 
 refused-is : (s : Site) (l : Ledger) (call : Call) (r : Result Answer Refusal) (before after : List Row) (q : ℕ) → KeptAt s l call r before after
-  → refusedBy s l call ≡ Some q → AnsweredWith s l call r before after (Some q) → r ≡ Err (refusalOf (crowdOf s l call) q)
+    → refusedBy s l call ≡ Some q → AnsweredWith s l call r before after (Some q) → r ≡ Err (refusalOf (crowdOf s l call) q)
 refused-is s l call r before after q kept at told =
     let e = told .0 .0 in
     let same = told .0 .1 in
     let number = told .0 .2 in
     let word : (u : ℕ) → e ≡ NoChoice u → u ≡ crowdOf s l call = λ u is.
-      let n : q ≡ 24 = sym number ∙ ap numberOf is in
-      crowd-with s l call r before after u kept (same ∙ ap Err is) (l .code) refl (at ∙ ap Some n) in
+    let n : q ≡ 24 = sym number ∙ ap numberOf is in
+    crowd-with s l call r before after u kept (same ∙ ap Err is) (l .code) refl (at ∙ ap Some n) in
     same ∙ ap Err (refusal-at e (crowdOf s l call) word ∙ ap (refusalOf (crowdOf s l call)) number)
 
 pub answer-is : (s : Site) (l : Ledger) (call : Call) (r : Result Answer Refusal) (before after : List Row)
-  → Answered s l call r before after → ((o : Code) → l .code ≡ Some o → Kept s o l call r before after) → r ≡ answerOf s l call
+    → Answered s l call r before after → ((o : Code) → l .code ≡ Some o → Kept s o l call r before after) → r ≡ answerOf s l call
 unfolding KeptAt
 answer-is s l call r before after answered kept =
     let P : Option ℕ → Type 0 = λ told. refusedBy s l call ≡ told → AnsweredWith s l call r before after told → r ≡ answerWith s l call told in
@@ -201,23 +203,23 @@ own-rows s l (release k) more = refl
 own-rows s l (abandon k) more = refl
 
 rest-with : (s : Site) (l : Ledger) (call : Call) (r : Result Answer Refusal) (before after : List Row) (told : Option ℕ) → AnsweredWith s l call r before after told
-  → restText (answerWith s l call told) (map shown after) ≡ restText (answerWith s l call told) (written s l call)
+    → restText (answerWith s l call told) (map shown after) ≡ restText (answerWith s l call told) (written s l call)
 rest-with s l call r before after (Some q) h = refl
 rest-with s l call r before after None h = ap (answerText (accepted s l call)) (h .1) ∙ own-rows s l call (map shown (drop (length (written s l call)) before))
 
 -- the line of a call, told by the ledger alone
 pub reply-is : (s : Site) (l : Ledger) (call : Call) (n : ℕ) (r : Result Answer Refusal) (before after : List Row)
-  → Answered s l call r before after → ((o : Code) → l .code ≡ Some o → Kept s o l call r before after)
-  → replyText n r (map shown after) ≡ replyText n (answerOf s l call) (written s l call)
+    → Answered s l call r before after → ((o : Code) → l .code ≡ Some o → Kept s o l call r before after)
+    → replyText n r (map shown after) ≡ replyText n (answerOf s l call) (written s l call)
 reply-is s l call n r before after answered kept =
     ap (λ (x : Result Answer Refusal). replyText n x (map shown after)) (answer-is s l call r before after answered kept)
     ∙ ap (λ (x : List ℕ). lineText (status (answerOf s l call)) (decimal n) x) (rest-with s l call r before after (refusedBy s l call) answered)
 
 -- a call at a store that has had the calls h, and the line that is written for it
 pub lined : (s : Site) (h : List Call) (call : Call) (after : Ledger) (r : Result Answer Refusal) (old new : List Row) (n count : ℕ) (was is : List ℕ)
-  → Since s h call after r old new → n ≡ firstOf call
-  → count ≡ length (take (length was) (replyText n r (map shown new))) → is ≡ whole was (replyText n r (map shown new)) → length (replyText n r (map shown new)) ≤ 2048
-  → Lined s h call after count was is
+    → Since s h call after r old new → n ≡ firstOf call
+    → count ≡ length (take (length was) (replyText n r (map shown new))) → is ≡ whole was (replyText n r (map shown new)) → length (replyText n r (map shown new)) ≤ 2048
+    → Lined s h call after count was is
 lined s h call after r old new n count was is since first c t short =
     let e = ap (λ m. replyText m r (map shown new)) first ∙ reply-is s (ledger s h) call (firstOf call) r old new (since .answered) (since .promised) in
     record {

@@ -63,20 +63,22 @@ unfolding noteWith
 code-noted s v h = ap (λ told. noteWith v told .code) h
 
 pub begun : {M : Type 0} (s : Site) (v : CodeValues) (n : ℕ) (ls : List (List ℕ)) (is : List ℕ) (lines : Lines) (store : Store M) (a : Answer) (old new : List Row)
-  → Since s [] (setUp v) (ledgerOf store) (Ok a) old new → CallsRead n ls is (leftOf lines) (lines .number)
-  → CallsRead n ls is (leftOf lines) (n + 1) × (refusedBy s start (setUp v) ≡ None)
+    → Since s [] (setUp v) (ledgerOf store) (Ok a) old new → CallsRead n ls is (leftOf lines) (lines .number)
+    → CallsRead n ls is (leftOf lines) (n + 1) × (refusedBy s start (setUp v) ≡ None)
     × Going (partOf s v is (n + 1) (leftOf lines)) [] (record { lines = lines; order = is; store = store })
 begun s v n ls is lines store a old new since read =
     let none = taken s start (setUp v) a old new (since .answered) in
-    let r = names-read n ls is (leftOf lines) (lines .number) read in
-    (next-number n ls is (leftOf lines) (lines .number) read, none,
-     record {
-       named = r .0;
-       ordered = refl;
-       within = omega arith;
-       said = tt;
-       here = refl;
-       number = omega (arith, r .1);
-       coded = (record { n = v .n; k = v .k; c = v .c }, code-noted s v none);
-       ledgered = since .ledgered;
-     })
+    let r = names-read n ls is (leftOf lines) (lines .number) read in (
+      next-number n ls is (leftOf lines) (lines .number) read,
+      none,
+      record {
+        named = r .0;
+        ordered = refl;
+        within = omega arith;
+        said = tt;
+        here = refl;
+        number = omega (arith, r .1);
+        coded = (record { n = v .n; k = v .k; c = v .c }, code-noted s v none);
+        ledgered = since .ledgered;
+      },
+    )

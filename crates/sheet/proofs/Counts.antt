@@ -57,8 +57,7 @@ unfolding positions
 positions-low w =
     all-kept-by (λ p. member w (p - 1)) (λ p. p < 100) (counting 1 32)
     (all-from-getD (λ p. p < 100) (counting 1 32) 0
-      (λ i h. let k : i < 32 = omega (arith, length-counting 1 32) in omega (arith, getD-counting 1 32 i 0 k)))
-
+    (λ i h. let k : i < 32 = omega (arith, length-counting 1 32) in omega (arith, getD-counting 1 32 i 0 k)))
 
 pub up-all : (w i : ℕ) → i ≡ 32 → upTo w i ≡ positions w
 unfolding positions
@@ -66,7 +65,7 @@ up-all w i e = ap (upTo w) e
 
 -- the first entries of a list that has the positions up to i, with one more at the end
 pub places-more : (places : List ℕ) (w n i : ℕ) → n < length places → member w i ≡ true → take n places ≡ upTo w i
-  → take (n + 1) (set places n (i + 1)) ≡ upTo w (i + 1)
+    → take (n + 1) (set places n (i + 1)) ≡ upTo w (i + 1)
 places-more places w n i low on e = take-more-set places n (i + 1) low ∙ ap (λ l. l ++ ((i + 1) ∷ [])) e ∙ sym (up-yes w i on)
 
 pub positions-few : (w n : ℕ) (places : List ℕ) → n ≤ 32 → take n places ≡ positions w → length (positions w) ≤ 32

@@ -26,8 +26,9 @@ member-half w k = ap (λ x. eqb (x % 2) 1) (sym (rw one-add at (shr-shr w 1 k)))
 low-le : (u w : ℕ) → (member u 0 ≡ true → member w 0 ≡ true) → u % 2 ≤ w % 2
 low-le u w h =
     elim (cases-eq (u % 2) 1) [
-      inl e ↦ omega (arith, eqb-true (w / 1 % 2) 1 (h (eq-eqb (u / 1 % 2) 1 (ap (λ x. x % 2) (div-one u) ∙ e))), ap (λ x. x % 2) (div-one w))
-    | inr e ↦ omega (arith, mod-below u 2 (omega arith)) ]
+      | inl e ↦ omega (arith, eqb-true (w / 1 % 2) 1 (h (eq-eqb (u / 1 % 2) 1 (ap (λ x. x % 2) (div-one u) ∙ e))), ap (λ x. x % 2) (div-one w))
+      | inr e ↦ omega (arith, mod-below u 2 (omega arith))
+    ]
 
 -- a set that is part of another has no higher word
 pub part-le : (n u w : ℕ) → u < 2 ^ n → w < 2 ^ n → ((k : ℕ) → member u k ≡ true → member w k ≡ true) → u ≤ w
@@ -43,12 +44,13 @@ unfolding firstFrom
 first-is p i zero w low high t none = absurd (omega arith)
 first-is p i (suc n) w low high t none =
     elim (cases-bool (p i)) [
-      inl on ↦ cond-true (p i) i (firstFrom p (i + 1) n) on
-        ∙ elim (cases-eq i w) [ inl e ↦ e | inr ne ↦ absurd (none i (omega arith) on) ]
-    | inr off ↦ cond-false (p i) i (firstFrom p (i + 1) n) off
-        ∙ first-is p (i + 1) n w
+      | inl on ↦ cond-true (p i) i (firstFrom p (i + 1) n) on
+          ∙ elim (cases-eq i w) [ inl e ↦ e | inr ne ↦ absurd (none i (omega arith) on) ]
+      | inr off ↦ cond-false (p i) i (firstFrom p (i + 1) n) off
+          ∙ first-is p (i + 1) n w
           (elim (cases-eq i w) [ inl e ↦ absurd (both-ways (p i) off (ap p e ∙ t)) | inr ne ↦ omega arith ])
-          (omega arith) t none ]
+          (omega arith) t none
+    ]
 
 pub crowd-least : (s : Site) (c : ℕ) (bs : List Copies) (w : ℕ) → LeastTight s c bs w → crowd s c bs ≡ w
 unfolding crowd
@@ -57,5 +59,5 @@ crowd-least s c bs w h =
     let within = h .tight .within in
     first-is (isTight s c bs) 0 (2 ^ n) w (omega arith) (omega (arith, within)) (lt-ltb (reach s c bs w) (ones w) (h .tight .short))
     (λ u lower on.
-      let t : Tight s c bs u = record { within = omega (arith, within); short = ltb-true (reach s c bs u) (ones u) on } in
-      omega (arith, part-le n w u within (t .within) (h .least u t)))
+    let t : Tight s c bs u = record { within = omega (arith, within); short = ltb-true (reach s c bs u) (ones u) on } in
+    omega (arith, part-le n w u within (t .within) (h .least u t)))

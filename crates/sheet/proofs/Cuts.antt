@@ -49,25 +49,32 @@ cut-kept list vs ws e t =
     let w : ws ≡ take (length vs) (padded 8 vs ++ (0 ∷ [])) = t ∙ (λ i. take (len i) (nodes i ++ (0 ∷ []))) in
     record {
       short = λ h. w ∙ front-padded 8 vs (0 ∷ []) h;
-      long = λ h. omega (arith, ap length w, length-take (length vs) (padded 8 vs ++ (0 ∷ [])), length-append (padded 8 vs) (0 ∷ []), length-padded 8 vs,
-        le-min {k = 9} {a = length vs} {b = length (padded 8 vs ++ (0 ∷ []))} (omega arith) (omega (arith, length-append (padded 8 vs) (0 ∷ []), length-padded 8 vs)));
+      long = λ h. omega (
+        arith,
+        ap length w,
+        length-take (length vs) (padded 8 vs ++ (0 ∷ [])),
+        length-append (padded 8 vs) (0 ∷ []),
+        length-padded 8 vs,
+        le-min {k = 9} {a = length vs} {b = length (padded 8 vs ++ (0 ∷ []))} (omega arith) (omega (arith, length-append (padded 8 vs) (0 ∷ []), length-padded 8 vs)),
+      );
     }
 
 -- a call with the cut list is answered as the call with the whole list
 pub lined-cut : (s : Site) (h : List Call) (b : ℕ) (vs ws : List ℕ) (o : Code) (after : Ledger) (count : ℕ) (was is : List ℕ) → ledger s h .code ≡ Some o → Cut vs ws
-  → Lined s h (offer b ws) after count was is → Lined s h (offer b vs) after count was is
+    → Lined s h (offer b ws) after count was is → Lined s h (offer b vs) after count was is
 lined-cut s h b vs ws o after count was is has cut lined =
     let l = ledger s h in
     elim (cases-lt 8 (length vs)) [
-      inr low ↦ subst (λ (us : List ℕ). Lined s h (offer b us) after count was is) (cut .short low) lined
-    | inl long ↦
-      let line : lineFor s l (Ok (offer b ws)) ≡ lineFor s l (Ok (offer b vs)) =
-        ap (λ r. replyText b r []) (long-answer s l o b ws has (cut .long long) ∙ sym (long-answer s l o b vs has long)) in
-      let next : ledger s (h ++ (offer b ws ∷ [])) ≡ ledger s (h ++ (offer b vs ∷ [])) =
-        ledger-more s h (offer b ws) ∙ long-step s l o b ws has (cut .long long) ∙ sym (long-step s l o b vs has long) ∙ sym (ledger-more s h (offer b vs)) in
-      record {
-        ledgered = lined .ledgered ∙ next;
-        text = lined .text ∙ ap (whole was) line;
-        count-is = lined .count-is ∙ ap (λ t. length (take (length was) t)) line;
-        short = subst (λ (t : List ℕ). length t ≤ 2048) line (lined .short);
-      } ]
+      | inr low ↦ subst (λ (us : List ℕ). Lined s h (offer b us) after count was is) (cut .short low) lined
+      | inl long ↦
+          let line : lineFor s l (Ok (offer b ws)) ≡ lineFor s l (Ok (offer b vs)) =
+          ap (λ r. replyText b r []) (long-answer s l o b ws has (cut .long long) ∙ sym (long-answer s l o b vs has long)) in
+          let next : ledger s (h ++ (offer b ws ∷ [])) ≡ ledger s (h ++ (offer b vs ∷ [])) =
+          ledger-more s h (offer b ws) ∙ long-step s l o b ws has (cut .long long) ∙ sym (long-step s l o b vs has long) ∙ sym (ledger-more s h (offer b vs)) in
+          record {
+            ledgered = lined .ledgered ∙ next;
+            text = lined .text ∙ ap (whole was) line;
+            count-is = lined .count-is ∙ ap (λ t. length (take (length was) t)) line;
+            short = subst (λ (t : List ℕ). length t ≤ 2048) line (lined .short);
+          }
+    ]

@@ -32,9 +32,9 @@ use Rattle.store.specs.Table.{ledgerOf}
 use Rattle.sheet.specs.declared.run.Run.{Run}
 use Rattle.sheet.specs.Said.{Said, Writes, fieldText, Stands, Low, LineSays, LinesSay}
 use Rattle.sheet.specs.FaultTexts.{faultLine}
-use Rattle.sheet.specs.Runs.{lineFor, callsIn, Lined}
+use Rattle.sheet.specs.Runs.{lineFor, linesFrom, callsIn, Lined}
 use Rattle.sheet.specs.Going.{Part, Going, lineAfter}
-use Rattle.sheet.proofs.Lines.{ledger-more, calls-append}
+use Rattle.sheet.proofs.Lines.{ledger-more, calls-append, lines-append, lines-noted}
 
 -- the code stays
 
@@ -55,13 +55,13 @@ pub code-stays : (s : Site) (l : Ledger) (call : Call) (o : Code) → l .code �
 unfolding stepWith
 code-stays s l call o has =
     let by : (told : Option ℕ) → stepWith s l call told (Some o) .code ≡ Some o =
-      λ told. elim told as (λ t. stepWith s l call t (Some o) .code ≡ Some o) [ Some q ↦ has | None ↦ noted-code s o l call ∙ has ] in
+    λ told. elim told as (λ t. stepWith s l call t (Some o) .code ≡ Some o) [ Some q ↦ has | None ↦ noted-code s o l call ∙ has ] in
     ap (λ (code : Option Code). stepWith s l call (refusedBy s l call) code .code) has ∙ by (refusedBy s l call)
 
 -- what a call line says
 
 pub says-call : (is : List ℕ) (n : ℕ) (line : List ℕ) (asked : Asked) (first : ℕ) → CallOrder is → CallRead is n line (record { asked = asked; first = first }) → Low asked → first ≤ 4294967295
-  → (c : Call) × Stands asked first c × LineSays is n line (Ok c)
+    → (c : Call) × Stands asked first c × LineSays is n line (Ok c)
 says-call is n line (Offer list) first order read low small =
     let t = read .text order in
     let r = t .1 in
@@ -103,7 +103,7 @@ next-none (l ∷ ls) n after m h = absurd h
 
 -- one more of a list, where the rest of it is known
 one-more : (i : ℕ) (ls : List (List ℕ)) (l : List ℕ) (more : List (List ℕ)) → drop i ls ≡ l ∷ more
-  → (take (suc i) ls ≡ take i ls ++ (l ∷ [])) × (drop (suc i) ls ≡ more) × (suc i ≤ length ls)
+    → (take (suc i) ls ≡ take i ls ++ (l ∷ [])) × (drop (suc i) ls ≡ more) × (suc i ≤ length ls)
 one-more i [] l more e = absurd (omega (arith, ap length e, length-drop {A = List ℕ} i []))
 one-more zero (x ∷ ls) l more e =
     let a : x ≡ l = cc in
@@ -136,23 +136,23 @@ ledger-fault p cs f = ap (λ x. ledger (p .site) (p .before ++ x)) (calls-append
 module _ {M : Type 0} (p : Part) (cs : List Said) (was : Run M) (going : Going p cs was) where
   -- one line further, with what it says and the ledger after it
   pub going-more : (line : Line) (lines : Lines) (store : Store M) (c : Said) → Next (leftOf (was .lines)) (was .lines .number) line (leftOf lines) (lines .number)
-    → LineSays (p .order) (line .number) (line .bytes .now) c
-    → ((o : Code) × (ledger (p .site) (p .before ++ callsIn (cs ++ (c ∷ []))) .code ≡ Some o))
-    → ledgerOf store ≡ ledger (p .site) (p .before ++ callsIn (cs ++ (c ∷ [])))
-    → Going p (cs ++ (c ∷ [])) (record { lines = lines; order = was .order; store = store })
+      → LineSays (p .order) (line .number) (line .bytes .now) c
+      → ((o : Code) × (ledger (p .site) (p .before ++ callsIn (cs ++ (c ∷ []))) .code ≡ Some o))
+      → ledgerOf store ≡ ledger (p .site) (p .before ++ callsIn (cs ++ (c ∷ [])))
+      → Going p (cs ++ (c ∷ [])) (record { lines = lines; order = was .order; store = store })
   going-more line lines store c next says coded ledgered =
       let n = length cs in
       let one : length (cs ++ (c ∷ [])) ≡ suc n = omega (arith, length-push cs c) in
       let m = one-more n (p .lines) (next .now-it) (next .later) (sym (going .here) ∙ next .all) in
       let at : line .number ≡ p .number + n = next .number ∙ going .number in
       let here : LineSays (p .order) (p .number + n) (next .now-it) c =
-        subst (λ (l : List ℕ). LineSays (p .order) (p .number + n) l c) (next .bytes) (subst (λ (k : ℕ). LineSays (p .order) k (line .bytes .now) c) at says) in
+      subst (λ (l : List ℕ). LineSays (p .order) (p .number + n) l c) (next .bytes) (subst (λ (k : ℕ). LineSays (p .order) k (line .bytes .now) c) at says) in
       record {
         named = going .named;
         ordered = going .ordered;
         within = omega (arith, m .2);
         said = subst (λ (ls : List (List ℕ)). LinesSay (p .order) (p .number) ls (cs ++ (c ∷ []))) (sym (ap (λ k. take k (p .lines)) one ∙ m .0))
-          (said-more (p .order) (p .number) (take n (p .lines)) cs (next .now-it) c (going .said) here);
+            (said-more (p .order) (p .number) (take n (p .lines)) cs (next .now-it) c (going .said) here);
         here = next .after-it ∙ sym (ap (λ k. drop k (p .lines)) one ∙ m .1);
         number = omega (arith, next .next, going .number);
         coded = coded;
@@ -161,18 +161,25 @@ module _ {M : Type 0} (p : Part) (cs : List Said) (was : Run M) (going : Going p
 
   -- no line is left
   pub going-ended : (lines : Lines) → NextLine (leftOf (was .lines)) (was .lines .number) None (leftOf lines) (lines .number)
-    → Going p cs (record { lines = lines; order = was .order; store = was .store }) × (length cs ≡ length (p .lines))
+      → Going p cs (record { lines = lines; order = was .order; store = was .store }) × (length cs ≡ length (p .lines))
   going-ended lines next =
       let e = next-none (leftOf (was .lines)) (was .lines .number) (leftOf lines) (lines .number) next in
-      let none : drop (length cs) (p .lines) ≡ [] = sym (going .here) ∙ e .0 in
-      (record {
-         named = going .named;
-         ordered = going .ordered;
-         within = going .within;
-         said = going .said;
-         here = e .1 ∙ sym none;
-         number = e .2 ∙ going .number;
-         coded = going .coded;
-         ledgered = going .ledgered;
-       },
-       omega (arith, going .within, ap length none, length-drop (length cs) (p .lines)))
+      let none : drop (length cs) (p .lines) ≡ [] = sym (going .here) ∙ e .0 in (
+        record {
+          named = going .named;
+          ordered = going .ordered;
+          within = going .within;
+          said = going .said;
+          here = e .1 ∙ sym none;
+          number = e .2 ∙ going .number;
+          coded = going .coded;
+          ledgered = going .ledgered;
+        },
+        omega (arith, going .within, ap length none, length-drop (length cs) (p .lines)),
+      )
+
+pub lines-grow : (p : Part) (cs : List Said) (c : Said)
+    → linesFrom (p .site) (ledger (p .site) (p .before)) (cs ++ (c ∷ [])) ≡ linesFrom (p .site) (ledger (p .site) (p .before)) cs ++ (lineAfter p cs c ∷ [])
+lines-grow p cs c =
+    lines-append (p .site) (ledger (p .site) (p .before)) cs c
+    ∙ ap (λ l. linesFrom (p .site) (ledger (p .site) (p .before)) cs ++ (lineFor (p .site) l c ∷ [])) (lines-noted (p .site) (p .before) cs)

@@ -22,9 +22,9 @@ kind-at Sheet = refl
 
 -- by line, column and number
 order-one : (a b c d m n : ℕ)
-  → ((a < b) ⊎ ((a ≡ b) × ((c < d) ⊎ ((c ≡ d) × (m ≤ n)))))
-  → ((b < a) ⊎ ((b ≡ a) × ((d < c) ⊎ ((d ≡ c) × (n ≤ m)))))
-  → (a ≡ b) × (c ≡ d) × (m ≡ n)
+    → ((a < b) ⊎ ((a ≡ b) × ((c < d) ⊎ ((c ≡ d) × (m ≤ n)))))
+    → ((b < a) ⊎ ((b ≡ a) × ((d < c) ⊎ ((d ≡ c) × (n ≤ m)))))
+    → (a ≡ b) × (c ≡ d) × (m ≡ n)
 order-one a b c d m n (inl p) (inl q) = absurd (omega arith)
 order-one a b c d m n (inl p) (inr (e, q)) = absurd (omega arith)
 order-one a b c d m n (inr (e, p)) (inl q) = absurd (omega arith)

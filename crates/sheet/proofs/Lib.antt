@@ -9,3 +9,5 @@ pub mod Goings
 pub mod Turns
 pub mod Begins
 pub mod Wholes
+pub mod OneCall
+pub mod OneRun

@@ -38,9 +38,10 @@ node-short n h = length-decimal-le 5 n (omega arith) (omega arith) (omega arith)
 
 pub row-short : (row : Line) → row .1 < 2 ^ 32 → row .2 < 2 ^ 16 → length (rowText row) ≤ 16
 row-short (kind, number, node, rack) small low =
-    elim (eqb kind 2) as (λ b. length (cond b (decimal number ++ (58 ∷ decimal node)) (decimal node)) ≤ 16)
-    [ true ↦ omega (arith, length-append (decimal number) (58 ∷ decimal node), word-short number small, node-short node low)
-    | false ↦ omega (arith, node-short node low) ]
+    elim (eqb kind 2) as (λ b. length (cond b (decimal number ++ (58 ∷ decimal node)) (decimal node)) ≤ 16) [
+      | true ↦ omega (arith, length-append (decimal number) (58 ∷ decimal node), word-short number small, node-short node low)
+      | false ↦ omega (arith, node-short node low)
+    ]
 
 -- numbers below 100 take three bytes each at most
 numbers-short : (vs : List ℕ) → All (λ v. v < 100) vs → length (joined (λ v. 32 ∷ decimal v) vs) ≤ 3 * length vs
@@ -107,8 +108,8 @@ rest-shorter : (rows : List Row) → length (between 1 (length rows) rows) ≤ l
 rest-shorter rows = omega (arith, length-take (length rows - 1) (drop 1 rows), min-le-left (length rows - 1) (length (drop 1 rows)))
 
 pub rows-short : (rows : List Row) (d : Row) → 0 < length rows → length (rowText (shown (getD rows 0 d))) ≤ 16
-  → length (furtherText (map shown (between 1 (length rows) rows))) ≤ 17 * length (between 1 (length rows) rows)
-  → length (rowsText (map shown rows)) ≤ 17 * length rows
+    → length (furtherText (map shown (between 1 (length rows) rows))) ≤ 17 * length (between 1 (length rows) rows)
+    → length (rowsText (map shown rows)) ≤ 17 * length rows
 rows-short rows d h one more =
     omega (arith, ap length (rows-first rows d h), length-append (rowText (shown (getD rows 0 d))) (furtherText (map shown (between 1 (length rows) rows))), rest-shorter rows)
 
@@ -118,15 +119,16 @@ further-at rows i d h =
 
 -- a turn of the loop that writes rows with a space before each
 pub further-turn : {a b c e : Writer} (rows : List Row) (i : ℕ) (d : Row) → i < length rows
-  → Wrote a b (furtherText (map shown (take i rows))) × (length (furtherText (map shown (take i rows))) ≤ 17 * i)
-  → Wrote b c (32 ∷ []) → Wrote c e (rowText (shown (getD rows i d))) → length (rowText (shown (getD rows i d))) ≤ 16
-  → Wrote a e (furtherText (map shown (take (i + 1) rows))) × (length (furtherText (map shown (take (i + 1) rows))) ≤ 17 * (i + 1))
+    → Wrote a b (furtherText (map shown (take i rows))) × (length (furtherText (map shown (take i rows))) ≤ 17 * i)
+    → Wrote b c (32 ∷ []) → Wrote c e (rowText (shown (getD rows i d))) → length (rowText (shown (getD rows i d))) ≤ 16
+    → Wrote a e (furtherText (map shown (take (i + 1) rows))) × (length (furtherText (map shown (take (i + 1) rows))) ≤ 17 * (i + 1))
 further-turn {a = a} {e = e} rows i d h inv p q s =
     let t = furtherText (map shown (take i rows)) in
     let r = rowText (shown (getD rows i d)) in
-    let eq : furtherText (map shown (take (i + 1) rows)) ≡ t ++ (32 ∷ r) = further-at rows i d h in
-    (subst (λ (l : List ℕ). Wrote a e l) (sym eq) (wrote-more t (32 ∷ r) (inv .0) (wrote-more (32 ∷ []) r p q)),
-     omega (arith, ap length eq, length-append t (32 ∷ r), inv .1))
+    let eq : furtherText (map shown (take (i + 1) rows)) ≡ t ++ (32 ∷ r) = further-at rows i d h in (
+      subst (λ (l : List ℕ). Wrote a e l) (sym eq) (wrote-more t (32 ∷ r) (inv .0) (wrote-more (32 ∷ []) r p q)),
+      omega (arith, ap length eq, length-append t (32 ∷ r), inv .1),
+    )
 
 -- how much is written from the front of a buffer
 pub wrote-length : {a b : Writer} (xs : List ℕ) → a .at ≡ 0 → Wrote a b xs → length (written b) ≡ length (take (room a) xs)

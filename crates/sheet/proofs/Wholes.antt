@@ -55,14 +55,17 @@ site-said ls (Listed nodes) (kind.Regular m) table text h = absurd h
 site-said ls (Listed nodes) kind.Listed table text h = inr (take nodes table, text, refl)
 
 pub opened-says : Opened-says
-opened-says sheet was table lines o s h means =
-    (record {
-       clean = h .0 .clean;
-       code = h .0 .code;
-       base = kindMeaning (o .kind) (listed (take (countOf (o .head .site)) table));
-       site = site-said (siteLines sheet) (o .head .site) (o .kind) table (h .0 .site) (h .1);
-       means = means;
-     }, h .0 .calls, h .0 .number)
+opened-says sheet was table lines o s h means = (
+  record {
+    clean = h .0 .clean;
+    code = h .0 .code;
+    base = kindMeaning (o .kind) (listed (take (countOf (o .head .site)) table));
+    site = site-said (siteLines sheet) (o .head .site) (o .kind) table (h .0 .site) (h .1);
+    means = means;
+  },
+  h .0 .calls,
+  h .0 .number,
+)
 
 pub unbegun-told : {M : Type 0} (run : Run M) → Unbegun-told run
 unbegun-told run sheet v s (fault.Site f) says h = absurd h

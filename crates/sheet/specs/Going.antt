@@ -16,7 +16,7 @@ use Rattle.store.specs.Table.{ledgerOf}
 use Rattle.sheet.specs.declared.run.Run.{Run}
 use Rattle.sheet.specs.declared.run.ShortBuffer.{ShortBuffer}
 use Rattle.sheet.specs.Said.{Said, LinesSay}
-use Rattle.sheet.specs.Runs.{lineFor, callsIn}
+use Rattle.sheet.specs.Runs.{lineFor, linesFrom, callsIn}
 
 -- A sheet's calls part: the site, the calls before it, the order of its names, the number of its first line, and its lines.
 pub record Part : Type 0 where
@@ -41,12 +41,17 @@ pub record Going {M : Type 0} (p : Part) (cs : List Said) (run : Run M) : Type 0
 abbrev pub lineAfter : Part → List Said → Said → List ℕ
 lineAfter p cs c = lineFor (p .site) (ledger (p .site) (p .before ++ callsIn cs)) c
 
+-- the lines so far, and this one more
+abbrev pub Lines-grow : Type 0
+Lines-grow = (p : Part) (cs : List Said) (c : Said)
+    → linesFrom (p .site) (ledger (p .site) (p .before)) (cs ++ (c ∷ [])) ≡ linesFrom (p .site) (ledger (p .site) (p .before)) cs ++ (lineAfter p cs c ∷ [])
+
 -- The next line is written at the front of the buffer, and the bytes past it stay; it has at most 2,048 bytes.
 pub record Given {M : Type 0} (s : Site) (was is : Run M) (count : ℕ) (before after : List ℕ) : Type 0 where
   pub roomy : 2048 ≤ length before
   pub short : count ≤ length before
   pub line : (p : Part) (cs : List Said) → p .site ≡ s → Going p cs was
-    → (c : Said) × Going p (cs ++ (c ∷ [])) is × (count ≡ length (lineAfter p cs c)) × (count ≤ 2048) × (after ≡ lineAfter p cs c ++ drop count before)
+      → (c : Said) × Going p (cs ++ (c ∷ [])) is × (count ≡ length (lineAfter p cs c)) × (count ≤ 2048) × (after ≡ lineAfter p cs c ++ drop count before)
 
 -- There is no further line, and nothing is written.
 pub record Ended {M : Type 0} (s : Site) (was is : Run M) (before after : List ℕ) : Type 0 where

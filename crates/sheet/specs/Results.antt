@@ -63,4 +63,4 @@ Crowd-least = (s : Site) (c : ℕ) (bs : List Copies) (w : ℕ) → LeastTight s
 -- what a store answers to a call made after any list of calls is this function of their ledger
 abbrev pub Answers-one : Type 0
 Answers-one = (s : Site) (calls : List Call) (call : Call) (r : Result Answer Refusal) (before after : List Row)
-  → Answered s (ledger s calls) call r before after → Promised s calls call r before after → r ≡ answerOf s (ledger s calls) call
+    → Answered s (ledger s calls) call r before after → Promised s calls call r before after → r ≡ answerOf s (ledger s calls) call

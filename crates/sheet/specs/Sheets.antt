@@ -72,7 +72,7 @@ abbrev pub CallsTold : List ℕ → CodeValues → Site → List (List ℕ) → 
 CallsTold sheet v s lines =
     ((f : Fault) × Least (CallsFault (callsAt sheet) (callLines sheet)) f × (lines ≡ faultLine f ∷ []))
     ⊎ ((is : List ℕ) × (after : List (List ℕ)) × (cs : List Said) × CallsRead (callsAt sheet) (callLines sheet) is after (callsAt sheet + 1)
-      × LinesSay is (callsAt sheet + 1) after cs × (lines ≡ linesFrom s (ledger s (setUp v ∷ [])) cs))
+    × LinesSay is (callsAt sheet + 1) after cs × (lines ≡ linesFrom s (ledger s (setUp v ∷ [])) cs))
 
 -- the lines after code and site are read: one for a refused set-up
 abbrev pub StoreTold : List ℕ → CodeValues → Site → List (List ℕ) → Type 0
@@ -97,16 +97,20 @@ Unopened-told = (sheet : List ℕ) (was table : List Place) (lines : Lines) (f :
 -- the map of an opened sheet means what the sheet says, and the reader is at its calls
 abbrev pub Opened-says : Type 0
 Opened-says = (sheet : List ℕ) (was table : List Place) (lines : Lines) (o : Opening) (s : Site) → RunOpened sheet was table lines (Ok o)
-  → s ≡ target (o .head .code .targets) (kindMeaning (o .kind) (listed (take (countOf (o .head .site)) table)))
-  → Says sheet (o .head .code) s × (leftOf lines ≡ callLines sheet) × (lines .number ≡ callsAt sheet)
+    → s ≡ target (o .head .code .targets) (kindMeaning (o .kind) (listed (take (countOf (o .head .site)) table)))
+    → Says sheet (o .head .code) s × (leftOf lines ≡ callLines sheet) × (lines .number ≡ callsAt sheet)
 
 -- a run that does not begin has the one line of its fault
 abbrev pub Unbegun-told : {M : Type 0} → Run M → Type 0
 Unbegun-told run = (sheet : List ℕ) (v : CodeValues) (s : Site) (f : RunFault) → Says sheet v s
-  → Begun s v (callLines sheet) (callsAt sheet) (Err f) run → LinesFor sheet (runFaultText f ∷ [])
+    → Begun s v (callLines sheet) (callsAt sheet) (Err f) run → LinesFor sheet (runFaultText f ∷ [])
 
 -- and one that has begun and has answered every line has given all lines, in order
 abbrev pub Whole-told : {M : Type 0} → Run M → Type 0
 Whole-told run = (sheet : List ℕ) (v : CodeValues) (s : Site) (is : List ℕ) (after : List (List ℕ)) (cs : List Said) → Says sheet v s
-  → CallsRead (callsAt sheet) (callLines sheet) is after (callsAt sheet + 1) → refusedBy s start (setUp v) ≡ None
-  → Going (partOf s v is (callsAt sheet + 1) after) cs run → length cs ≡ length after → LinesFor sheet (linesFrom s (ledger s (setUp v ∷ [])) cs)
+    → CallsRead (callsAt sheet) (callLines sheet) is after (callsAt sheet + 1) → refusedBy s start (setUp v) ≡ None
+    → Going (partOf s v is (callsAt sheet + 1) after) cs run → length cs ≡ length after → LinesFor sheet (linesFrom s (ledger s (setUp v ∷ [])) cs)
+
+-- the bytes, with the code and the site that they say, leave one list of lines
+abbrev pub Told-one : Type 0
+Told-one = (sheet : List ℕ) (v : CodeValues) (s : Site) (xs ys : List (List ℕ)) → StoreTold sheet v s xs → StoreTold sheet v s ys → xs ≡ ys

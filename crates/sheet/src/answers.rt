@@ -28,12 +28,22 @@ use text::nodes::NodeList;
 pub const ROWS: usize = 112;
 
 /// Makes a call at a store that has had the calls h, and writes its line.
-pub(crate) fn answer<M: SiteMap>(store: &mut Store<M>, call: Call, first: u32, out: &mut [u8]) -> usize
+pub(crate) fn answer<M: SiteMap>(
+    store: &mut Store<M>,
+    call: Call,
+    first: u32,
+    out: &mut [u8],
+) -> usize
     ensures within { λ r. ⌜ r ≤ length (now (out .entry)) ⌝ }
     ensures map { λ _. ⌜ now (store .exit) .map ≡ now (store .entry) .map ⌝ }
     ensures line { λ r. ⌜ ((h : List LedgerCall) → first ≡ firstOf (callOf (call .entry) 112) → ledgerOf (now (store .entry)) ≡ ledger (M·SiteMap .meaning (now (store .entry) .map)) h → Lined (M·SiteMap .meaning (now (store .entry) .map)) h (callOf (call .entry) 112) (ledgerOf (now (store .exit))) r (now (out .entry)) (now (out .exit))) ⌝ }
 {
-    let mut rows = [Row { kind: Kind::Data, number: 0, node: Node(0), rack: Rack(0) }; ROWS];
+    let mut rows = [Row {
+        kind: Kind::Data,
+        number: 0,
+        node: Node(0),
+        rack: Rack(0),
+    }; ROWS];
     let result = store.call(&call, &mut rows);
     write_reply(out, first, result, &rows)
 }
@@ -68,10 +78,21 @@ pub(crate) fn answer_line<M: SiteMap>(store: &mut Store<M>, line: CallLine, out:
     match line.asked {
         Asked::Offer(list) => {
             let nodes = offered(&list);
-            answer(store, Call::Offer { block: first, nodes: front(&nodes, list.len) }, first, out)
+            answer(
+                store,
+                Call::Offer {
+                    block: first,
+                    nodes: front(&nodes, list.len),
+                },
+                first,
+                out,
+            )
         }
         Asked::Seal(start) => {
-            let call: Call<'static> = Call::Seal { rack: Rack(first), start: node(start) };
+            let call: Call<'static> = Call::Seal {
+                rack: Rack(first),
+                start: node(start),
+            };
             answer(store, call, first, out)
         }
         Asked::Plan => {

@@ -52,7 +52,12 @@ pub fn write_read_fault(out: &mut [u8], fault: Fault) -> usize
     ensures after { λ _. ⌜ now (out .exit) ≡ whole (now (out .entry)) (faultLine fault) ⌝ }
     ensures short { λ _. ⌜ length (faultLine fault) ≤ 2048 ⌝ }
 {
-    write_fault(out, u32::from(fault.kind.number()), fault.place.line, fault.place.column)
+    write_fault(
+        out,
+        u32::from(fault.kind.number()),
+        fault.place.line,
+        fault.place.column,
+    )
 }
 
 fn write_site_fault(out: &mut [u8], fault: SiteFault) -> usize

@@ -1,7 +1,8 @@
 // What the definitions of a run owe.
 ghost use Rattle.sheet.specs.Results.{Crowd-least, Answers-one};
 ghost use Rattle.sheet.specs.Runs.{Plan-named, Lines-noted};
-ghost use Rattle.sheet.specs.Sheets.{Unopened-told, Opened-says, Unbegun-told, Whole-told};
+ghost use Rattle.sheet.specs.Going.{Lines-grow};
+ghost use Rattle.sheet.specs.Sheets.{Unopened-told, Opened-says, Unbegun-told, Whole-told, Told-one};
 use crate::run::Run;
 use site::SiteMap;
 
@@ -33,6 +34,13 @@ pub fn lines_noted() -> u8
     0
 }
 
+/// Each line that a run gives is the next of its sheet's.
+pub fn lines_grow() -> u8
+    ensures { λ _. ⌜ Lines-grow ⌝ }
+{
+    0
+}
+
 /// A sheet that is not opened has the one line of its fault.
 pub fn unopened_told() -> u8
     ensures { λ _. ⌜ Unopened-told ⌝ }
@@ -57,6 +65,13 @@ pub fn unbegun_told<M: SiteMap>(run: &Run<'_, M>) -> u8
 /// The lines that a run gives one after the other are those of its sheet.
 pub fn whole_told<M: SiteMap>(run: &Run<'_, M>) -> u8
     ensures { λ _. ⌜ Whole-told (now (run .entry)) ⌝ }
+{
+    0
+}
+
+/// A sheet's code, site and call lines leave one list of lines.
+pub fn told_one() -> u8
+    ensures { λ _. ⌜ Told-one ⌝ }
 {
     0
 }

@@ -8,3 +8,5 @@ pub mod replies;
 pub mod run;
 pub mod running;
 pub mod start;
+#[cfg(test)]
+mod tests;

@@ -121,7 +121,12 @@ fn put_rest(writer: &mut Writer, result: Result<Answer, Refusal>, rows: &[Row])
 }
 
 /// Writes the answer line of a call, and says how long it is.
-pub fn write_reply(out: &mut [u8], first: u32, result: Result<Answer, Refusal>, rows: &[Row]) -> usize
+pub fn write_reply(
+    out: &mut [u8],
+    first: u32,
+    result: Result<Answer, Refusal>,
+    rows: &[Row],
+) -> usize
     ensures value { λ r. ⌜ r ≡ length (take (length (now (out .entry))) (replyText first result (map shown (now (rows .entry))))) ⌝ }
     ensures after { λ _. ⌜ now (out .exit) ≡ whole (now (out .entry)) (replyText first result (map shown (now (rows .entry)))) ⌝ }
     ensures short { λ _. ⌜ (length (now (rows .entry)) ≤ 112 → length (replyText first result (map shown (now (rows .entry)))) ≤ 2048) ⌝ }

@@ -33,7 +33,11 @@ use store::types::Row;
 use text::lines::Lines;
 
 /// Reads the code and the site of a sheet, a listing's places into the table, and leaves the reader at the calls part.
-pub fn open_run<'a>(sheet: &'a [u8], lines: &mut Lines<'a>, table: &mut [(Rack, Mark); TABLE]) -> Result<Opening, RunFault>
+pub fn open_run<'a>(
+    sheet: &'a [u8],
+    lines: &mut Lines<'a>,
+    table: &mut [(Rack, Mark); TABLE],
+) -> Result<Opening, RunFault>
     ensures { λ r. ⌜ RunOpened (now (sheet .entry)) (now (table .entry)) (now (table .exit)) (now (lines .exit)) r ⌝ }
 {
     let opening = open_sheet(sheet, lines, table)?;
@@ -55,7 +59,10 @@ pub fn sheet_map<'a>(opening: Opening, table: &'a [(Rack, Mark)]) -> TargetMap<S
     ensures { λ r. ⌜ target (r .word) (mapMeaning (r .map)) ≡ target (opening .head .code .targets) (kindMeaning (opening .kind) (listed (take (countOf (opening .head .site)) (now (table .entry))))) ⌝ }
 {
     let places = front(table, listed_nodes(opening.head.site));
-    TargetMap::new(SheetMap::new(opening.kind, places), opening.head.code.targets)
+    TargetMap::new(
+        SheetMap::new(opening.kind, places),
+        opening.head.code.targets,
+    )
 }
 
 impl<'a, M: SiteMap> Run<'a, M> {
@@ -66,7 +73,11 @@ impl<'a, M: SiteMap> Run<'a, M> {
         ensures left { λ r. ⌜ leftOf (r .lines) ≡ leftOf (lines .entry) ⌝ }
         ensures number { λ r. ⌜ r .lines .number ≡ lines .entry .number ⌝ }
     {
-        Run { lines, order: [0, 1, 2], store: Store::new(map) }
+        Run {
+            lines,
+            order: [0, 1, 2],
+            store: Store::new(map),
+        }
     }
 
     /// Sets the store up, and then reads the names of the calls.
@@ -74,8 +85,17 @@ impl<'a, M: SiteMap> Run<'a, M> {
         ensures map { λ _. ⌜ now (self .exit) .store .map ≡ now (self .entry) .store .map ⌝ }
         ensures begun { λ r. ⌜ (ledgerOf (now (self .entry) .store) ≡ start → Begun (M·SiteMap .meaning (now (self .entry) .store .map)) code (leftOf (now (self .entry) .lines)) (now (self .entry) .lines .number) r (now (self .exit))) ⌝ }
     {
-        let call: Call<'static> = Call::SetUp { n: code.n, k: code.k, c: code.c };
-        let mut rows = [Row { kind: Kind::Data, number: 0, node: Node(0), rack: Rack(0) }; 1];
+        let call: Call<'static> = Call::SetUp {
+            n: code.n,
+            k: code.k,
+            c: code.c,
+        };
+        let mut rows = [Row {
+            kind: Kind::Data,
+            number: 0,
+            node: Node(0),
+            rack: Rack(0),
+        }; 1];
         self.store.call(&call, &mut rows)?;
         self.order = read_calls(&mut self.lines)?;
         Ok(())

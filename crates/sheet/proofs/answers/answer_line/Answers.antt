@@ -24,15 +24,15 @@ returns-in-Offer g c =
     let list = c .in-Offer .list in
     let ws = numbers (c .front .result .now) in
     let sent : ws ≡ take (list .len) (list .nodes ++ (0 ∷ [])) =
-      ap numbers (c .front .ensures) ∙ sym (take-map (λ (v : Node). v .0) (list .len) (c .offered-nodes .result)) ∙ ap (take (list .len)) (c .offered-nodes .ensures) in
+    ap numbers (c .front .ensures) ∙ sym (take-map (λ (v : Node). v .0) (list .len) (c .offered-nodes .result)) ∙ ap (take (list .len)) (c .offered-nodes .ensures) in
     record {
       low = low-by (c .in-Offer .is) tt (omega arith);
       within = c .answer .ensures .within;
       map = c .answer .ensures .map;
       line = λ h call o stands has at.
-        let p = subst (λ (a : Asked). Stands a n call) (c .in-Offer .is) stands in
-        let whole = lined-cut s h n (p .0) ws o (ledgerOf (c .answer .last .store)) (c .answer .result) (c .args .out .now) (c .answer .last .out) has (cut-kept list (p .0) ws (p .1) sent) (c .answer .ensures .line h refl at) in
-        subst (λ (x : Call). Lined s h x (ledgerOf (c .answer .last .store)) (c .answer .result) (c .args .out .now) (c .answer .last .out)) (sym (p .2)) whole;
+          let p = subst (λ (a : Asked). Stands a n call) (c .in-Offer .is) stands in
+          let whole = lined-cut s h n (p .0) ws o (ledgerOf (c .answer .last .store)) (c .answer .result) (c .args .out .now) (c .answer .last .out) has (cut-kept list (p .0) ws (p .1) sent) (c .answer .ensures .line h refl at) in
+          subst (λ (x : Call). Lined s h x (ledgerOf (c .answer .last .store)) (c .answer .result) (c .args .out .now) (c .answer .last .out)) (sym (p .2)) whole;
     }
 
 pub returns-in-Seal : need.returns-in-Seal
@@ -44,8 +44,8 @@ returns-in-Seal g c =
       within = c .answer-in-Seal .ensures .within;
       map = c .answer-in-Seal .ensures .map;
       line = λ h call o stands has at.
-        let e = subst (λ (a : Asked). Stands a n call) (c .in-Seal .is) stands in
-        subst (λ (x : Call). Lined s h x (ledgerOf (c .answer-in-Seal .last .store)) (c .answer-in-Seal .result) (c .args .out .now) (c .answer-in-Seal .last .out)) (sym (e ∙ ap (seal n) (sym (c .node .ensures .value)))) (c .answer-in-Seal .ensures .line h refl at);
+          let e = subst (λ (a : Asked). Stands a n call) (c .in-Seal .is) stands in
+          subst (λ (x : Call). Lined s h x (ledgerOf (c .answer-in-Seal .last .store)) (c .answer-in-Seal .result) (c .args .out .now) (c .answer-in-Seal .last .out)) (sym (e ∙ ap (seal n) (sym (c .node .ensures .value)))) (c .answer-in-Seal .ensures .line h refl at);
     }
 
 pub returns-in-Plan : need.returns-in-Plan
@@ -57,8 +57,8 @@ returns-in-Plan g c =
       within = c .answer-in-Plan .ensures .within;
       map = c .answer-in-Plan .ensures .map;
       line = λ h call o stands has at.
-        let e = subst (λ (a : Asked). Stands a n call) (c .in-Plan .is) stands in
-        subst (λ (x : Call). Lined s h x (ledgerOf (c .answer-in-Plan .last .store)) (c .answer-in-Plan .result) (c .args .out .now) (c .answer-in-Plan .last .out)) (sym e) (c .answer-in-Plan .ensures .line h refl at);
+          let e = subst (λ (a : Asked). Stands a n call) (c .in-Plan .is) stands in
+          subst (λ (x : Call). Lined s h x (ledgerOf (c .answer-in-Plan .last .store)) (c .answer-in-Plan .result) (c .args .out .now) (c .answer-in-Plan .last .out)) (sym e) (c .answer-in-Plan .ensures .line h refl at);
     }
 
 pub returns-in-Deletions : need.returns-in-Deletions
@@ -70,8 +70,8 @@ returns-in-Deletions g c =
       within = c .answer-in-Deletions .ensures .within;
       map = c .answer-in-Deletions .ensures .map;
       line = λ h call o stands has at.
-        let e = subst (λ (a : Asked). Stands a n call) (c .in-Deletions .is) stands in
-        subst (λ (x : Call). Lined s h x (ledgerOf (c .answer-in-Deletions .last .store)) (c .answer-in-Deletions .result) (c .args .out .now) (c .answer-in-Deletions .last .out)) (sym e) (c .answer-in-Deletions .ensures .line h refl at);
+          let e = subst (λ (a : Asked). Stands a n call) (c .in-Deletions .is) stands in
+          subst (λ (x : Call). Lined s h x (ledgerOf (c .answer-in-Deletions .last .store)) (c .answer-in-Deletions .result) (c .args .out .now) (c .answer-in-Deletions .last .out)) (sym e) (c .answer-in-Deletions .ensures .line h refl at);
     }
 
 pub returns-in-Release : need.returns-in-Release
@@ -83,8 +83,8 @@ returns-in-Release g c =
       within = c .answer-in-Release .ensures .within;
       map = c .answer-in-Release .ensures .map;
       line = λ h call o stands has at.
-        let e = subst (λ (a : Asked). Stands a n call) (c .in-Release .is) stands in
-        subst (λ (x : Call). Lined s h x (ledgerOf (c .answer-in-Release .last .store)) (c .answer-in-Release .result) (c .args .out .now) (c .answer-in-Release .last .out)) (sym e) (c .answer-in-Release .ensures .line h refl at);
+          let e = subst (λ (a : Asked). Stands a n call) (c .in-Release .is) stands in
+          subst (λ (x : Call). Lined s h x (ledgerOf (c .answer-in-Release .last .store)) (c .answer-in-Release .result) (c .args .out .now) (c .answer-in-Release .last .out)) (sym e) (c .answer-in-Release .ensures .line h refl at);
     }
 
 pub returns-in-Abandon : need.returns-in-Abandon
@@ -96,6 +96,6 @@ returns-in-Abandon g c =
       within = c .answer-in-Abandon .ensures .within;
       map = c .answer-in-Abandon .ensures .map;
       line = λ h call o stands has at.
-        let e = subst (λ (a : Asked). Stands a n call) (c .in-Abandon .is) stands in
-        subst (λ (x : Call). Lined s h x (ledgerOf (c .answer-in-Abandon .last .store)) (c .answer-in-Abandon .result) (c .args .out .now) (c .answer-in-Abandon .last .out)) (sym e) (c .answer-in-Abandon .ensures .line h refl at);
+          let e = subst (λ (a : Asked). Stands a n call) (c .in-Abandon .is) stands in
+          subst (λ (x : Call). Lined s h x (ledgerOf (c .answer-in-Abandon .last .store)) (c .answer-in-Abandon .result) (c .args .out .now) (c .answer-in-Abandon .last .out)) (sym e) (c .answer-in-Abandon .ensures .line h refl at);
     }

@@ -15,9 +15,10 @@ loop-i-again c =
     let xs = c .args .list .now .nodes in
     let i = c .loop-i .i in
     let v = getD xs i 0 in
-    let zs : List ℕ = replicate 9 0 in
-    (map-set (λ (n : Node). n .0) (c .loop-i .nodes) i (record { 0 = v }) ∙ ap (λ l. set l i v) (c .loop-i .inv .0) ∙ over-more i xs zs (omega arith) (omega arith) ∙ ap (λ n. take n xs ++ drop n zs) (sym (add-one i)),
-     length-set (c .loop-i .nodes) i (record { 0 = v }) ∙ c .loop-i .inv .1)
+    let zs : List ℕ = replicate 9 0 in (
+      map-set (λ (n : Node). n .0) (c .loop-i .nodes) i (record { 0 = v }) ∙ ap (λ l. set l i v) (c .loop-i .inv .0) ∙ over-more i xs zs (omega arith) (omega arith) ∙ ap (λ n. take n xs ++ drop n zs) (sym (add-one i)),
+      length-set (c .loop-i .nodes) i (record { 0 = v }) ∙ c .loop-i .inv .1,
+    )
 
 pub returns : need.returns
 returns c =

@@ -20,14 +20,15 @@ loop-i-again c =
     let n = c .loop-i .count in
     let places = c .loop-i .places in
     elim (c .if-word-i-eq1 .came) [
-      then-word-i-eq1 v ↦
-        let yes : member w i ≡ true = eq-eqb _ _ (v .if-word-i-eq1 .taken) in
-        let more : countTo (i + 1) (member w) ≡ 1 + countTo i (member w) = count-more (member w) i ∙ ap (λ b. cond b 1 0 + countTo i (member w)) yes in
-        rw (v .places-is, v .count-is) (places-more places w n i (omega arith) yes (c .loop-i .inv .0), omega arith, omega arith, length-set places n (i + 1) ∙ c .loop-i .inv .3)
-    | else-word-i-eq1 v ↦
-        let no : member w i ≡ false = ne-eqb _ _ (v .if-word-i-eq1 .left) in
-        let more : countTo (i + 1) (member w) ≡ 0 + countTo i (member w) = count-more (member w) i ∙ ap (λ b. cond b 1 0 + countTo i (member w)) no in
-        rw (v .places-is, v .count-is) (c .loop-i .inv .0 ∙ sym (up-no w i no), omega arith, omega arith, c .loop-i .inv .3) ]
+      | then-word-i-eq1 v ↦
+          let yes : member w i ≡ true = eq-eqb _ _ (v .if-word-i-eq1 .taken) in
+          let more : countTo (i + 1) (member w) ≡ 1 + countTo i (member w) = count-more (member w) i ∙ ap (λ b. cond b 1 0 + countTo i (member w)) yes in
+          rw (v .places-is, v .count-is) (places-more places w n i (omega arith) yes (c .loop-i .inv .0), omega arith, omega arith, length-set places n (i + 1) ∙ c .loop-i .inv .3)
+      | else-word-i-eq1 v ↦
+          let no : member w i ≡ false = ne-eqb _ _ (v .if-word-i-eq1 .left) in
+          let more : countTo (i + 1) (member w) ≡ 0 + countTo i (member w) = count-more (member w) i ∙ ap (λ b. cond b 1 0 + countTo i (member w)) no in
+          rw (v .places-is, v .count-is) (c .loop-i .inv .0 ∙ sym (up-no w i no), omega arith, omega arith, c .loop-i .inv .3)
+    ]
 
 pub returns : need.returns
 returns c =

@@ -10,7 +10,7 @@ returns g c =
     record {
       map = c .in-Continue-call .ensures tt .told .kept;
       begun = λ new.
-        let b = begun (g .M·SiteMap .meaning (was .store .map)) (c .args .code) (was .lines .number) (leftOf (was .lines)) is lines (c .call .last .self) (c .in-Continue-call .field-0) _ (c .call .last .rows)
+          let b = begun (g .M·SiteMap .meaning (was .store .map)) (c .args .code) (was .lines .number) (leftOf (was .lines)) is lines (c .call .last .self) (c .in-Continue-call .field-0) _ (c .call .last .rows)
           (c .in-Continue-call .ensures tt .since _ new) (c .in-Continue-self .ensures tt) in
-        (is, leftOf lines, b .0, b .1, b .2);
+          (is, leftOf lines, b .0, b .1, b .2);
     }

@@ -21,9 +21,9 @@ returns-in-Ok g c =
     record {
       map = c .answer-line .ensures .map;
       next =
-        given-call (g .M·SiteMap .meaning (was .store .map)) was line lines (c .args .out .now) (c .answer-line .last .out) (c .answer-line .result) (omega arith) (c .answer-line .ensures .within)
-        (next-some (leftOf (was .lines)) (was .lines .number) line (leftOf lines) (lines .number) (c .in-Some .ensures tt .next)) (c .in-Some .ensures tt .short)
-        (c .answer-line .last .store) (c .in-Ok .call) (c .in-Ok .ensures tt) (c .answer-line .ensures .low) (c .answer-line .ensures .line);
+          given-call (g .M·SiteMap .meaning (was .store .map)) was line lines (c .args .out .now) (c .answer-line .last .out) (c .answer-line .result) (omega arith) (c .answer-line .ensures .within)
+          (next-some (leftOf (was .lines)) (was .lines .number) line (leftOf lines) (lines .number) (c .in-Some .ensures tt .next)) (c .in-Some .ensures tt .short)
+          (c .answer-line .last .store) (c .in-Ok .call) (c .in-Ok .ensures tt) (c .answer-line .ensures .low) (c .answer-line .ensures .line);
     }
 
 pub returns-in-Err : need.returns-in-Err
@@ -36,8 +36,8 @@ returns-in-Err g c =
     record {
       map = refl;
       next =
-        given-fault (g .M·SiteMap .meaning (was .store .map)) was line lines out (c .write-read-fault .last .out) (c .write-read-fault .result) (omega arith)
-        (omega (arith, c .write-read-fault .ensures .value, length-take (length out) (faultLine f), min-le-left (length out) (length (faultLine f))))
-        (next-some (leftOf (was .lines)) (was .lines .number) line (leftOf lines) (lines .number) (c .in-Some .ensures tt .next)) (c .in-Some .ensures tt .short)
-        f (c .in-Err .ensures tt) (c .write-read-fault .ensures .value) (c .write-read-fault .ensures .after) (c .write-read-fault .ensures .short);
+          given-fault (g .M·SiteMap .meaning (was .store .map)) was line lines out (c .write-read-fault .last .out) (c .write-read-fault .result) (omega arith)
+          (omega (arith, c .write-read-fault .ensures .value, length-take (length out) (faultLine f), min-le-left (length out) (length (faultLine f))))
+          (next-some (leftOf (was .lines)) (was .lines .number) line (leftOf lines) (lines .number) (c .in-Some .ensures tt .next)) (c .in-Some .ensures tt .short)
+          f (c .in-Err .ensures tt) (c .write-read-fault .ensures .value) (c .write-read-fault .ensures .after) (c .write-read-fault .ensures .short);
     }
