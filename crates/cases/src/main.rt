@@ -1,4 +1,6 @@
 // Many sheets, each with its answers below its name. What has to be printed was derived from the rules, not from this program.
+#![tactic(auto)]
+
 use console::print_answers;
 use std::{fs, io};
 

@@ -1,4 +1,6 @@
 // A sheet's answers on standard output: the heading, and then each line as the run gives it.
+#![tactic(auto)]
+
 use reader::code::CodeValues;
 use reader::listing::TABLE;
 use sheet::faults::{RunFault, write_run_fault};

@@ -1,5 +1,7 @@
 // Whether blocks can be admitted, who crowds one out, which copies a sealed stripe keeps, and where its parity goes:
 // pure functions over a map and some blocks.
+#![tactic(auto)]
+
 pub mod admit;
 pub mod first;
 pub mod plan;

@@ -1,4 +1,6 @@
 // The three parts of a site sheet, read from bytes into values. What is wrong with them is told by the earliest fault.
+#![tactic(auto)]
+
 pub mod act;
 pub mod calls;
 pub mod code;

@@ -1,3 +1,5 @@
 // How many blocks a map can keep at all, and where the parity of a plan goes.
+#![tactic(auto)]
+
 pub mod parity;
 pub mod space;

@@ -1,4 +1,6 @@
 // What a site sheet is answered: the lines of a run, byte for byte, and the run itself.
+#![tactic(auto)]
+
 pub mod answers;
 pub mod faults;
 mod front;

@@ -1,4 +1,6 @@
 // What a site is made of, and the maps that tell of it: how many nodes there are, and each node's rack and keep mark.
+#![tactic(auto)]
+
 ghost use Rattle.std.specs.Prelude.{◌≡◌, length};
 ghost use Rattle.site.specs.Site.{Site, Limits, place};
 

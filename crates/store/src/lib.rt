@@ -1,4 +1,6 @@
 // One store over one map for life: its code, the 32 stripes, the eight calls, and the promise over any list of calls.
+#![tactic(auto)]
+
 pub mod calls;
 pub mod checks;
 pub mod offers;

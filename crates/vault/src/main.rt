@@ -1,4 +1,6 @@
 // The program: a sheet on standard input, its answer lines on standard output.
+#![tactic(auto)]
+
 use console::print_answers;
 use sheet::start::enough;
 use std::io;

@@ -1,4 +1,6 @@
 // Worked examples of the rules, as one proved list.
+#![tactic(auto)]
+
 ghost use Rattle.worked.specs.Worked.{Worked};
 
 /// The examples follow from the rules.
