@@ -44,10 +44,10 @@ allTo answerText answerWith anyTo asKind blocksOf byteAct callForm callLines cal
 codeNames codeNoted codeText copiesOf countBy crowdOf crowdText dataRows faultLine faultText fieldText firstFrom
 furtherText goneAt goneOf goneRows goneTo heldsOf inRack indexFrom isOffer isSealed isTight isWord keepOf kindMeaning
 lastOut ledgerOf lenAfter letterOf letterText lineAfter lineText listAt listOr listsIn mapMeaning markText nodeAt nodeNames
-nodeText noteLine numberOr numbersIn onMap outAfter parityRows partAfter partText pastNumber pastPart piecesLeft planRow
+nodeText noteLine noteWith numberOr numbersIn onMap outAfter parityRows partAfter partText pastNumber pastPart piecesLeft planRow
 planRows rackAt rackIn reachOf refusalOf refusedBy refusedLong refusedWith regularNames regularText replyText restField
 restText rowText rowsAfter rowsLeft rowsText rowsWith runFaultText sayOf seatAt seatsOf setAfter siteLines siteOf spacedOne
-stripeOf testLeast tooLong unlessFits wantOf
+stepWith stripeOf testLeast tooLong unlessFits wantOf
 """.split():
     WORDS[word] = re.sub(r"(?<=[a-z0-9])([A-Z])", lambda m: "_" + m.group(1).lower(), word)
 

@@ -17,14 +17,14 @@ impl<M: SiteMap> TargetMap<M> {
     /// The racks of `word` are the targets: its bit j, the lowest being 0, is for rack j.
     pub fn new(map: M, word: u32) -> TargetMap<M>
         ensures fields { (result.map ≡ map) × (result.word ≡ word) }
-        ensures means { target result.word (meaning result.map) ≡ target word (meaning map) }
+        ensures means { target result.word (M.meaning result.map) ≡ target word (M.meaning map) }
     {
         TargetMap { map, word }
     }
 
     /// All racks are targets: it means what the map below means.
     pub fn all(map: M) -> TargetMap<M>
-        ensures { target result.word (meaning result.map) ≡ meaning map }
+        ensures { target result.word (M.meaning result.map) ≡ M.meaning map }
     {
         TargetMap {
             map,
@@ -35,7 +35,7 @@ impl<M: SiteMap> TargetMap<M> {
     /// One map that means what a target map over this one means: the two words are and-ed.
     pub fn within(self, word: u32) -> TargetMap<M>
         ensures fields { (result.map ≡ self.map) × (result.word ≡ bit_and self.word word) }
-        ensures means { target result.word (meaning result.map) ≡ target word (target self.word (meaning self.map)) }
+        ensures means { target result.word (M.meaning result.map) ≡ target word (target self.word (M.meaning self.map)) }
     {
         let TargetMap { map, word: own } = self;
         TargetMap {

@@ -12,9 +12,9 @@ returns-in-Ok g c =
     record {
       put = λ sheet says left number.
           begun-put sheet c.args.code (meaning c.args.map) (meaning run.store.map) (left_of run.lines) run.lines.number c.begin.new.self says means (new.left ∙ left)
-          (new.number ∙ number) c.args.writer.now c.put-lines.new.writer c.put-lines.result tt c.put-lines.new.run (c.in-Ok.ensures.begun new.ledger)
-          (λ p same going. c.put-lines.ensures.put p (same ∙ sym (ap meaning c.in-Ok.ensures.map ∙ means)) going);
-      short = c.put-lines.ensures.short;
+          (new.number ∙ number) c.args.writer.now c.put_lines.new.writer c.put_lines.result tt c.put_lines.new.run (c.in-Ok.ensures.begun new.ledger)
+          (λ p same going. c.put_lines.ensures.put p (same ∙ sym (ap meaning c.in-Ok.ensures.map ∙ means)) going);
+      short = c.put_lines.ensures.short;
     }
 
 pub returns : goal.returns
@@ -25,7 +25,7 @@ returns g c =
     record {
       put = λ sheet says left number.
           unbegun-put sheet c.args.code (meaning c.args.map) (meaning run.store.map) (left_of run.lines) run.lines.number c.begin.new.self says (ap meaning new.map) (new.left ∙ left)
-          (new.number ∙ number) c.args.writer.now c.put-fault.new.writer c.put-fault.result c.in-Err.fault (c.in-Err.ensures.begun new.ledger) c.put-fault.ensures.wrote
-          c.put-fault.ensures.count;
-      short = omega (arith, c.put-fault.ensures.short);
+          (new.number ∙ number) c.args.writer.now c.put_fault.new.writer c.put_fault.result c.in-Err.fault (c.in-Err.ensures.begun new.ledger) c.put_fault.ensures.wrote
+          c.put_fault.ensures.count;
+      short = omega (arith, c.put_fault.ensures.short);
     }

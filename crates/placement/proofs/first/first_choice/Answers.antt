@@ -17,10 +17,10 @@ returns-in-Ok g c =
     let limits = g.M.SiteMap.limits c.args.map.now in
     let p = c.args.blocks.now in
     let few : c.len-n.result ≤ 16 = omega (arith, c.len-n.ensures, length_front p.len 16 p.at p.few p.full, p.few) in
-    let all : Resolved s (lists_of p) c.resolve-all-seats.result = subst (λ z. Resolved s (lists_in z) c.resolve-all-seats.result) c.as-slice.ensures c.resolve-all-seats.ensures in
-    c.nodes-of.ensures
-    ∙ c.settle-all.ensures s (map (filter (keeps s)) (lists_of p))
-    (standing-first s limits c.args.c (lists_of p) c.resolve-all-seats.result c.len-n.result _ (length-map (blocks_of p) copies_of ∙ sym c.len-n.ensures) (omega arith) all c.in-Ok.ensures.found)
+    let all : Resolved s (lists_of p) c.resolve_all-seats.result = subst (λ z. Resolved s (lists_in z) c.resolve_all-seats.result) c.as_slice.ensures c.resolve_all-seats.ensures in
+    c.nodes_of.ensures
+    ∙ c.settle_all.ensures s (map (filter (keeps s)) (lists_of p))
+    (standing-first s limits c.args.c (lists_of p) c.resolve_all-seats.result c.len-n.result _ (length-map (blocks_of p) copies_of ∙ sym c.len-n.ensures) (omega arith) all c.in-Ok.ensures.found)
     ∙ ap first_of (seat-choices s c.args.c (lists_of p))
 
 pub returns-in-Err : goal.returns-in-Err
@@ -29,8 +29,8 @@ returns-in-Err g c =
     let limits = g.M.SiteMap.limits c.args.map.now in
     let p = c.args.blocks.now in
     let few : c.len-n.result ≤ 16 = omega (arith, c.len-n.ensures, length_front p.len 16 p.at p.few p.full, p.few) in
-    let all : Resolved s (lists_of p) c.resolve-all-seats.result = subst (λ z. Resolved s (lists_in z) c.resolve-all-seats.result) c.as-slice.ensures c.resolve-all-seats.ensures in
+    let all : Resolved s (lists_of p) c.resolve_all-seats.result = subst (λ z. Resolved s (lists_in z) c.resolve_all-seats.result) c.as_slice.ensures c.resolve_all-seats.ensures in
     let long : length (lists_of p) ≡ c.len-n.result = length-map (blocks_of p) copies_of ∙ sym c.len-n.ensures in
     c.new.ensures
     ∙ sym (ap first_of (none-listed s c.args.c (lists_of p)
-    (refused s limits c.args.c (lists_of p) c.resolve-all-seats.result c.len-n.result (omega arith) long all _ c.in-Err.ensures.found)))
+    (refused s limits c.args.c (lists_of p) c.resolve_all-seats.result c.len-n.result (omega arith) long all _ c.in-Err.ensures.found)))

@@ -42,6 +42,6 @@ returns g c =
     record {
       planned = λ l.
           roomy (g.M.SiteMap.meaning c.args.map.now) q.n q.k q.c (lists_of p) c.args.start.0 _ _ q.more q.few l
-          c.first-choice-nodes.ensures c.parity.ensures;
+          c.first_choice-nodes.ensures c.parity.ensures;
       over = λ l. absurd (omega (arith, c.if-len-code.false, c.len.ensures));
     }

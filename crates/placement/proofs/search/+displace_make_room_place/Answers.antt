@@ -100,12 +100,12 @@ displace-returns t c = record {
       (c.loop-left.invariant.5 rack U N g own c.args.n (omega arith) (omega (arith, c.requires.0, lowest.none_left c.loop-left.left c.loop-left-test.false)));
 }
 
-pub make-room-returns-in-default : goal.make-room-returns-in-default
-make-room-returns-in-default t c =
+pub make_room-returns-in_default : goal.make_room-returns-in_default
+make_room-returns-in_default t c =
     let long : c.args.x < length c.loop-i.sat.at = omega (arith, c.requires.0, c.loop-i.sat.places) in
     let inside : c.args.x < c.args.n = omega (arith, c.requires.0) in
     let words = wording.again _ _ _ _ _ _ c.loop-i.invariant.1 c.loop-i.invariant.2 c.requires.1 in
-    let kept = subst (λ r. Blockers c.args.c c.loop-i.sat.at (get_or c.loop-i.sat.racks r 0) (node_at c.index-seats-x.result.at c.loop-i.i) None) c.slot.ensures.0 c.in-default.ensures in
+    let kept = subst (λ r. Blockers c.args.c c.loop-i.sat.at (get_or c.loop-i.sat.racks r 0) (node_at c.index-seats-x.result.at c.loop-i.i) None) c.slot.ensures.0 c.in_default.ensures in
     record {
       fewer = c.loop-i.invariant.0;
       worded = wording.again _ _ _ _ _ _ c.sit.ensures.at c.sit.ensures.racks
@@ -115,14 +115,14 @@ make-room-returns-in-default t c =
           (seated.opened rack U N _ _ _ _ _ _ g _ c.loop-i.invariant.1 _ (seated.own-seat rack U N _ _ _ _ _ _ g c.index-seats-x.result inside c.index-seats-x.is c.loop-i.i c.loop-i-test.true) long (omega (arith, c.requires.0)) _ words _ refl kept);
     }
 
-pub make-room-displace-requires : goal.make-room-displace-requires
-make-room-displace-requires t c =
+pub make_room-displace-requires : goal.make_room-displace-requires
+make_room-displace-requires t c =
     let words = wording.again _ _ _ _ _ _ c.loop-i.invariant.1 c.loop-i.invariant.2 c.requires.1 in
     let kept = subst (λ r. Blockers c.args.c c.loop-i.sat.at (get_or c.loop-i.sat.racks r 0) (node_at c.index-seats-x.result.at c.loop-i.i) (Some c.in-Some.word)) c.slot.ensures.0 c.in-Some.ensures in
     (omega (arith, c.loop-i.invariant.0), (omega (arith, c.requires.0), (omega (arith, c.requires.0), (omega (arith, c.requires.0), (words, kept)))))
 
-pub make-room-returns-then-displace : goal.make-room-returns-then-displace
-make-room-returns-then-displace t c =
+pub make_room-returns-then-displace : goal.make_room-returns-then-displace
+make_room-returns-then-displace t c =
     let inside : c.args.x < c.args.n = omega (arith, c.requires.0) in
     record {
       fewer = omega (arith, c.if-displace.ensures.fewer, c.loop-i.invariant.0);
@@ -133,8 +133,8 @@ make-room-returns-then-displace t c =
           (seated.own-seat rack U N _ _ _ _ _ _ g c.index-seats-x.result inside c.index-seats-x.is c.loop-i.i c.loop-i-test.true);
     }
 
-pub make-room-loop-i-preserved : goal.make-room-loop-i-preserved
-make-room-loop-i-preserved t c =
+pub make_room-loop-i-preserved : goal.make_room-loop-i-preserved
+make_room-loop-i-preserved t c =
     let inside : c.args.x < c.args.n = omega (arith, c.requires.0) in
     let k = c.if-displace.ensures in (
       omega (arith, k.fewer, c.loop-i.invariant.0),
@@ -146,8 +146,8 @@ make-room-loop-i-preserved t c =
           (seated.own-seat rack U N _ _ _ _ _ _ g c.index-seats-x.result inside c.index-seats-x.is c.loop-i.i c.loop-i-test.true)),
     )
 
-pub make-room-returns : goal.make-room-returns
-make-room-returns t c =
+pub make_room-returns : goal.make_room-returns
+make_room-returns t c =
     let inside : c.args.x < c.args.n = omega (arith, c.requires.0) in
     record {
       fewer = c.loop-i.invariant.0;
@@ -155,11 +155,11 @@ make-room-returns t c =
       found = λ rack U N g. seated.passed rack U N _ _ _ _ _ _ g c.index-seats-x.result inside c.index-seats-x.is _ c.loop-i.i (c.loop-i.invariant.3 rack U N g) c.loop-i-test.false;
     }
 
-pub place-returns-then-take-open : goal.place-returns-then-take-open
-place-returns-then-take-open t c =
+pub place-returns-then-take_open : goal.place-returns-then-take_open
+place-returns-then-take_open t c =
     let long : c.args.x < length c.args.sat.now.at = omega (arith, c.requires.0, c.args.sat.now.places) in
     let inside : c.args.x < c.args.n = omega (arith, c.requires.0) in
-    let k = c.if-take-open.ensures in
+    let k = c.if-take_open.ensures in
     record {
       fewer = omega arith;
       worded = wording.again _ _ _ _ _ _ k.3 k.4

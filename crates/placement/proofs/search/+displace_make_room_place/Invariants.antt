@@ -9,8 +9,8 @@ use Rattle.placement.proofs.search.+displace_make_room_place.Given as goal
 abbrev pub decreases-displace : goal.decreases-displace
 decreases-displace l = 3 * unseen l.n l.seen.now
 
-abbrev pub decreases-make-room : goal.decreases-make-room
-decreases-make-room l = 3 * unseen l.n l.seen.now + 1
+abbrev pub decreases-make_room : goal.decreases-make_room
+decreases-make_room l = 3 * unseen l.n l.seen.now + 1
 
 abbrev pub decreases-place : goal.decreases-place
 decreases-place l = 3 * unseen l.n l.seen.now + 2
@@ -28,8 +28,8 @@ invariant-displace-loop-left l =
 abbrev pub decreases-displace-loop-left : goal.decreases-displace-loop-left
 decreases-displace-loop-left l = count_to 32 (member l.left)
 
-abbrev pub invariant-make-room-loop-i : goal.invariant-make-room-loop-i
-invariant-make-room-loop-i l =
+abbrev pub invariant-make_room-loop-i : goal.invariant-make_room-loop-i
+invariant-make_room-loop-i l =
     (unseen l.n l.seen ≤ unseen l.n l.initial.seen) × (l.sat.at ≡ l.initial.sat.at) × (l.sat.racks ≡ l.initial.sat.racks)
     × ((rack : ℕ → ℕ) (U : ℕ → ℕ → Bool) (N : ℕ) → Grounded rack U N l.n l.c l.seats l.initial.sat.at l.x l.initial.seen
     → Passing l.n N 32 l.c rack U (node_at l.initial.sat.at) l.x (node_at l.list.at) l.initial.seen l.seen l.i)

@@ -12,8 +12,8 @@ extend-requires c = ((omega (arith, c.requires.0, c.loop-m-test.true), (omega (a
 
 pub loop-m-preserved : goal.loop-m-preserved
 loop-m-preserved c = (
-  c.in-default.ensures.worded,
-  λ rack U N z s. c.in-default.ensures.found rack U N (one_more rack U N _ _ _ z s _ _ c.loop-m-test.true (c.loop-m.invariant.1 rack U N z s)),
+  c.in_default.ensures.worded,
+  λ rack U N z s. c.in_default.ensures.found rack U N (one_more rack U N _ _ _ z s _ _ c.loop-m-test.true (c.loop-m.invariant.1 rack U N z s)),
 )
 
 pub returns-in-Err : goal.returns-in-Err

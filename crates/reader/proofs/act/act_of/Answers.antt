@@ -6,5 +6,5 @@ use Rattle.reader.proofs.act.act_of.Goals as goal
 pub returns : goal.returns
 returns c =
     let bs = c.args.field.now in
-    let v = c.act-of-byte.ensures ∙ ap letter (sym (one_byte bs (omega arith))) in
-    record { value = v; exact = lettered bs c.act-of-byte.result v }
+    let v = c.act_of_byte.ensures ∙ ap letter (sym (one_byte bs (omega arith))) in
+    record { value = v; exact = lettered bs c.act_of_byte.result v }

@@ -8,4 +8,4 @@ same_some x y e = cc
 
 pub returns : goal.returns
 returns c f e fit =
-    fit-nodes c.in-Some.field.now (node_list_in c.in-Some.field.now) c.node-list.result c.unwrap-or.result _ c.node-list.ensures.exact c.node-list.ensures.value c.unwrap-or.ensures f (same_some _ f (c.in-Some.ensures ∙ e)) fit
+    fit-nodes c.in-Some.field.now (node_list_in c.in-Some.field.now) c.node_list.result c.unwrap_or.result _ c.node_list.ensures.exact c.node_list.ensures.value c.unwrap_or.ensures f (same_some _ f (c.in-Some.ensures ∙ e)) fit

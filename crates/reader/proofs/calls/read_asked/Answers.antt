@@ -3,19 +3,19 @@ use Rattle.reader.specs.Wants.{Fit, say_of}
 use Rattle.reader.proofs.WantLaws.{fit-nothing}
 use Rattle.reader.proofs.calls.read_asked.Goals as goal
 
-pub overflow-cast-result : goal.overflow-cast-result
-overflow-cast-result c = omega (arith, c.number-named.ensures.within)
+pub overflow_cast-result : goal.overflow_cast-result
+overflow_cast-result c = omega (arith, c.number_named.ensures.within)
 
 pub returns-in-Offer : goal.returns-in-Offer
 returns-in-Offer c = record {
   act = sym c.in-Offer.is;
-  rest = λ f e fit. c.nodes-named.ensures f e (subst (λ a. Fit (say_of a) f) c.in-Offer.is fit);
+  rest = λ f e fit. c.nodes_named.ensures f e (subst (λ a. Fit (say_of a) f) c.in-Offer.is fit);
 }
 
 pub returns-in-Seal : goal.returns-in-Seal
 returns-in-Seal c = record {
   act = sym c.in-Seal.is;
-  rest = λ f e fit. c.number-named.ensures.text f e (subst (λ a. Fit (say_of a) f) c.in-Seal.is fit);
+  rest = λ f e fit. c.number_named.ensures.text f e (subst (λ a. Fit (say_of a) f) c.in-Seal.is fit);
 }
 
 pub returns-in-Plan : goal.returns-in-Plan

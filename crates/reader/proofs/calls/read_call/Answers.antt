@@ -3,4 +3,4 @@ use Rattle.reader.proofs.calls.read_call.Goals as goal
 
 pub returns : goal.returns
 returns c =
-    call-read _ _ _ c.call-named-act.result c.form-of.result c.unwrap-or-act.result _ c.call-named-act.ensures c.form-of.ensures c.in-ok-check-row.ensures c.unwrap-or-act.ensures c.read-asked.ensures.act c.read-asked.ensures.rest c.number-named-first.ensures.text
+    call-read _ _ _ c.call_named-act.result c.form_of.result c.unwrap_or-act.result _ c.call_named-act.ensures c.form_of.ensures c.in_ok-check_row.ensures c.unwrap_or-act.ensures c.read_asked.ensures.act c.read_asked.ensures.rest c.number_named-first.ensures.text

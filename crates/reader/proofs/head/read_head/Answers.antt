@@ -3,16 +3,16 @@ use Rattle.std.proofs.lemmas.Result.{err_from_is_err_and}
 use Rattle.reader.proofs.HeadLaws.{head-code-wrong, head-site-wrong, head_read}
 use Rattle.reader.proofs.head.read_head.Goals as goal
 
-pub returns-in-err-code : goal.returns-in-err-code
-returns-in-err-code c =
+pub returns-in_err-code : goal.returns-in_err-code
+returns-in_err-code c =
     let p = err_from_is_err_and c.from-residual.result c.from-residual.ensures.1 in
-    rw (p.1, p.2) (head-code-wrong c.args.sheet.now (omega arith) c.new.result _ c.new.ensures.left c.new.ensures.number c.in-err-code.ensures)
+    rw (p.1, p.2) (head-code-wrong c.args.sheet.now (omega arith) c.new.result _ c.new.ensures.left c.new.ensures.number c.in_err-code.ensures)
 
-pub returns-in-err-site : goal.returns-in-err-site
-returns-in-err-site c =
-    let p = err_from_is_err_and c.from-residual-in-err-site.result c.from-residual-in-err-site.ensures.1 in
-    rw (p.1, p.2) (head-site-wrong c.args.sheet.now (omega arith) c.new.result c.read-code.new.lines c.in-ok-code.code c.new.ensures.left c.new.ensures.number c.in-ok-code.ensures _ c.in-err-site.ensures)
+pub returns-in_err-site : goal.returns-in_err-site
+returns-in_err-site c =
+    let p = err_from_is_err_and c.from-residual-in_err-site.result c.from-residual-in_err-site.ensures.1 in
+    rw (p.1, p.2) (head-site-wrong c.args.sheet.now (omega arith) c.new.result c.read_code.new.lines c.in_ok-code.code c.new.ensures.left c.new.ensures.number c.in_ok-code.ensures _ c.in_err-site.ensures)
 
 pub returns : goal.returns
 returns c =
-    head_read c.args.sheet.now (omega arith) c.new.result c.read-code.new.lines c.in-ok-code.code c.new.ensures.left c.new.ensures.number c.in-ok-code.ensures c.read-site.new.lines c.in-ok-site.site c.args.table.now c.read-site.new.table c.in-ok-site.ensures
+    head_read c.args.sheet.now (omega arith) c.new.result c.read_code.new.lines c.in_ok-code.code c.new.ensures.left c.new.ensures.number c.in_ok-code.ensures c.read_site.new.lines c.in_ok-site.site c.args.table.now c.read_site.new.table c.in_ok-site.ensures

@@ -12,20 +12,20 @@ use Rattle.reader.proofs.listing.read_nodes.Goals as goal
 not-zero : (n : ℕ) → (n ≡ 0 → ⊥) → 0 < n
 not-zero n h = omega arith
 
-pub returns-then-is-empty : goal.returns-then-is-empty
-returns-then-is-empty c =
+pub returns-then-is_empty : goal.returns-then-is_empty
+returns-then-is_empty c =
     let i = c.loop-line.invariant in
     let l = c.loop-line.lines in
-    read-to-empty c.args.order.now c.args.lines.now.number (left_of c.args.lines.now) c.args.table.now c.loop-line.table c.loop-line.count l.number (left_of l) i.0 i.1 i.2 i.3 i.4 i.5 i.7 _ _ c.in-Some.line c.in-Some.ensures.next (eqb-true _ 0 (sym c.if-is-empty.ensures))
+    read-to-empty c.args.order.now c.args.lines.now.number (left_of c.args.lines.now) c.args.table.now c.loop-line.table c.loop-line.count l.number (left_of l) i.0 i.1 i.2 i.3 i.4 i.5 i.7 _ _ c.in-Some.line c.in-Some.ensures.next (eqb-true _ 0 (sym c.if-is_empty.ensures))
 
-pub returns-in-err-place : goal.returns-in-err-place
-returns-in-err-place c =
+pub returns-in_err-place : goal.returns-in_err-place
+returns-in_err-place c =
     let i = c.loop-line.invariant in
     let l = c.loop-line.lines in
     let is = c.args.order.now in
     let p = err_from_is_err_and c.from-residual.result c.from-residual.ensures.1 in
     rw (p.1, p.2) (least-same (NodesFault is l.number c.loop-line.count (left_of l)) (NodesFault is c.args.lines.now.number 0 (left_of c.args.lines.now)) _ i.0
-    (turn-wrong is l.number c.loop-line.count (left_of l) c.in-Some.line _ _ c.in-Some.ensures.next c.in-Some.ensures.short (not-zero _ (eqb-false _ 0 (sym c.if-is-empty.ensures))) _ c.in-err-place.ensures))
+    (turn-wrong is l.number c.loop-line.count (left_of l) c.in-Some.line _ _ c.in-Some.ensures.next c.in-Some.ensures.short (not-zero _ (eqb-false _ 0 (sym c.if-is_empty.ensures))) _ c.in_err-place.ensures))
 
 pub loop-line-smaller : goal.loop-line-smaller
 loop-line-smaller c =
@@ -39,14 +39,14 @@ loop-line-preserved c =
     let l = c.loop-line.lines in
     let is = c.args.order.now in
     let line = c.in-Some.line in
-    let next = c.next-line.new.self in
+    let next = c.next_line.new.self in
     let count = c.loop-line.count in
     let table = c.loop-line.table in
-    let place = c.in-ok-place.place in
-    let read = c.in-ok-place.ensures in
+    let place = c.in_ok-place.place in
+    let read = c.in_ok-place.ensures in
     let t = c.in-Some.ensures.next in
     let short = c.in-Some.ensures.short in
-    let some : 0 < length line.bytes.now = not-zero _ (eqb-false _ 0 (sym c.if-is-empty.ensures)) in
+    let some : 0 < length line.bytes.now = not-zero _ (eqb-false _ 0 (sym c.if-is_empty.ensures)) in
     let room : count < length table = omega (arith, read.few, i.6) in
     let past = turn-past is l.number count (left_of l) line (left_of next) next.number t short some in (
       same_then (NodesFault is next.number (count + 1) (left_of next)) (NodesFault is l.number count (left_of l)) (NodesFault is c.args.lines.now.number 0 (left_of c.args.lines.now))
@@ -65,4 +65,4 @@ pub returns : goal.returns
 returns c =
     let i = c.loop-line.invariant in
     let l = c.loop-line.lines in
-    read-to-end c.args.order.now c.args.lines.now.number (left_of c.args.lines.now) c.args.table.now c.loop-line.table c.loop-line.count l.number (left_of l) i.0 i.1 i.2 i.3 i.4 i.5 i.7 _ _ c.in-default.ensures.next
+    read-to-end c.args.order.now c.args.lines.now.number (left_of c.args.lines.now) c.args.table.now c.loop-line.table c.loop-line.count l.number (left_of l) i.0 i.1 i.2 i.3 i.4 i.5 i.7 _ _ c.in_default.ensures.next

@@ -4,4 +4,4 @@ use Rattle.reader.proofs.NameLaws.{found-order, call-apart}
 use Rattle.reader.proofs.names.call_order.Goals as goal
 
 pub returns : goal.returns
-returns c = found-order 3 call_names c.args.line.now c.name-order.result refl call-apart c.name-order.ensures.exact
+returns c = found-order 3 call_names c.args.line.now c.name_order.result refl call-apart c.name_order.ensures.exact

@@ -4,4 +4,4 @@ use Rattle.reader.proofs.NameLaws.{found-order, code_apart}
 use Rattle.reader.proofs.names.code_order.Goals as goal
 
 pub returns : goal.returns
-returns c = found-order 4 code_names c.args.line.now c.name-order.result refl code_apart c.name-order.ensures.exact
+returns c = found-order 4 code_names c.args.line.now c.name_order.result refl code_apart c.name_order.ensures.exact

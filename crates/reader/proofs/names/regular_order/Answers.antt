@@ -4,4 +4,4 @@ use Rattle.reader.proofs.NameLaws.{found-order, regular-apart}
 use Rattle.reader.proofs.names.regular_order.Goals as goal
 
 pub returns : goal.returns
-returns c = found-order 2 regular_names c.args.line.now c.name-order.result refl regular-apart c.name-order.ensures.exact
+returns c = found-order 2 regular_names c.args.line.now c.name_order.result refl regular-apart c.name_order.ensures.exact

@@ -33,23 +33,23 @@ loop-name-preserved c =
     let row = RowFault c.args.form order c.args.line.number (take 65536 c.args.line.bytes.now) in
     same_then _ _ row
     (right-field c.args.form l.place.line (end_of l) (get_or order n 0) (drop (n + 1) order) (cells_left l) _ _ _ c.in-Field.bytes c.in-Field.place c.in-Field.ensures
-    (subst (λ w. Fit w c.in-Field.bytes.now) c.wants.ensures c.in-default.ensures))
+    (subst (λ w. Fit w c.in-Field.bytes.now) c.wants.ensures c.in_default.ensures))
     (at_name c.args.form l.place.line (end_of l) order n (cells_left l) row c.loop-name.invariant (omega arith))
 
-pub returns-in-Field-next-token : goal.returns-in-Field-next-token
-returns-in-Field-next-token c =
+pub returns-in-Field-next_token : goal.returns-in-Field-next_token
+returns-in-Field-next_token c =
     let l = c.loop-name.lexer in
     let order = c.args.order.now in
     let n = c.loop-name.name-index in
     let row = RowFault c.args.form order c.args.line.number (take 65536 c.args.line.bytes.now) in
     least-same _ row _ (at-end c.args.form l.place.line (end_of l) order n (cells_left l) row c.loop-name.invariant (omega arith))
-    (extra-field c.args.form l.place.line (end_of l) (cells_left l) _ l.place.column _ _ c.in-Field-next-token.bytes c.in-Field-next-token.place c.in-Field-next-token.ensures (lexer-rises l))
+    (extra-field c.args.form l.place.line (end_of l) (cells_left l) _ l.place.column _ _ c.in-Field-next_token.bytes c.in-Field-next_token.place c.in-Field-next_token.ensures (lexer-rises l))
 
-pub returns-in-End-next-token : goal.returns-in-End-next-token
-returns-in-End-next-token c =
+pub returns-in-End-next_token : goal.returns-in-End-next_token
+returns-in-End-next_token c =
     let l = c.loop-name.lexer in
     let order = c.args.order.now in
     let n = c.loop-name.name-index in
     let row = RowFault c.args.form order c.args.line.number (take 65536 c.args.line.bytes.now) in
     clean-same _ row (at-end c.args.form l.place.line (end_of l) order n (cells_left l) row c.loop-name.invariant (omega arith))
-    (all_read c.args.form l.place.line (end_of l) (cells_left l) _ _ _ c.in-End-next-token.place c.in-End-next-token.ensures)
+    (all_read c.args.form l.place.line (end_of l) (cells_left l) _ _ _ c.in-End-next_token.place c.in-End-next_token.ensures)

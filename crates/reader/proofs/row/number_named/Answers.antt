@@ -8,6 +8,6 @@ same_some x y e = cc
 pub returns : goal.returns
 returns c = record {
   text = λ f e fits.
-      fit-number c.args.limit c.in-Some.field.now c.number.result c.unwrap-or.result c.number.ensures.exact c.unwrap-or.ensures f (same_some _ f (c.in-Some.ensures ∙ e)) fits;
-  within = within-limit c.args.limit c.in-Some.field.now c.number.result c.unwrap-or.result c.number.ensures.exact c.unwrap-or.ensures;
+      fit-number c.args.limit c.in-Some.field.now c.number.result c.unwrap_or.result c.number.ensures.exact c.unwrap_or.ensures f (same_some _ f (c.in-Some.ensures ∙ e)) fits;
+  within = within-limit c.args.limit c.in-Some.field.now c.number.result c.unwrap_or.result c.number.ensures.exact c.unwrap_or.ensures;
 }

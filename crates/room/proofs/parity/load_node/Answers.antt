@@ -14,8 +14,8 @@ on s vs i xs h l = subst (λ t. Loads s t xs) (sym (map_more (λ v. v.0) vs i (r
 pub bounds-loads-rack : goal.bounds-loads-rack
 bounds-loads-rack g c = omega (arith, c.requires.0.long, racked (g.M.SiteMap.meaning c.args.map.now) _ c.in-Some.rack c.in-Some.field-0-1 c.in-Some.ensures (g.M.SiteMap.limits c.args.map.now))
 
-pub overflow-add-loads : goal.overflow-add-loads
-overflow-add-loads g c =
+pub overflow_add-loads : goal.overflow_add-loads
+overflow_add-loads g c =
     let s = g.M.SiteMap.meaning c.args.map.now in
     let vs = take c.args.i c.args.nodes.now in
     let h : c.in-Some.rack.0 < 32 = racked s _ c.in-Some.rack c.in-Some.field-0-1 c.in-Some.ensures (g.M.SiteMap.limits c.args.map.now) in

@@ -14,22 +14,22 @@ use Rattle.room.proofs.parity.parity.Goals as goal
 few : (p : Nodes) → length (node_numbers p) ≤ 24
 few p = omega (arith, length-map (take p.len p.at) (λ v. v.0), length_front p.len 24 p.at p.few p.full, p.few)
 
-pub overflow-sub-taken : goal.overflow-sub-taken
-overflow-sub-taken g c = omega (arith, c.len-taken.ensures, few c.args.plan.now)
+pub overflow_sub-taken : goal.overflow_sub-taken
+overflow_sub-taken g c = omega (arith, c.len-taken.ensures, few c.args.plan.now)
 
-pub loads-of-loads-requires : goal.loads-of-loads-requires
-loads-of-loads-requires g c =
-    omega (arith, length-map c.as-slice.result.now (λ v. v.0), ap length c.as-slice.ensures, few c.args.plan.now)
+pub loads_of-loads-requires : goal.loads_of-loads-requires
+loads_of-loads-requires g c =
+    omega (arith, length-map c.as_slice.result.now (λ v. v.0), ap length c.as_slice.ensures, few c.args.plan.now)
 
-pub visit-all-requires : goal.visit-all-requires
-visit-all-requires g c = (
-  subst (λ t. Loads (g.M.SiteMap.meaning c.args.map.now) t c.loads-of-loads.result) c.as-slice.ensures c.loads-of-loads.ensures,
+pub visit_all-requires : goal.visit_all-requires
+visit_all-requires g c = (
+  subst (λ t. Loads (g.M.SiteMap.meaning c.args.map.now) t c.loads_of-loads.result) c.as_slice.ensures c.loads_of-loads.ensures,
   omega (arith, c.min.ensures, min-le_right c.args.left (24 - c.len-taken.result), c.len-taken.ensures, few c.args.plan.now),
 )
 
-pub visit-all-requires-2 : goal.visit-all-requires-2
-visit-all-requires-2 g c = (
-  c.visit-all.ensures.loads,
+pub visit_all-requires-2 : goal.visit_all-requires-2
+visit_all-requires-2 g c = (
+  c.visit_all.ensures.loads,
   omega (arith, c.min.ensures, min-le_right c.args.left (24 - c.len-taken.result), c.len-taken.ensures, few c.args.plan.now),
 )
 
@@ -44,8 +44,8 @@ returns g c =
     let left : c.len-taken.result + c.min.result - length (node_numbers c.args.plan.now) ≡ min c.args.left (24 - length (node_numbers c.args.plan.now)) =
     let q : c.len-taken.result + c.min.result - length (node_numbers c.args.plan.now) ≡ c.min.result = omega (arith, c.len-taken.ensures) in
     q ∙ c.min.ensures ∙ ap (λ k. min c.args.left (24 - k)) c.len-taken.ensures in
-    c.visit-all-2.ensures.plan
-    ∙ (ap (λ p. a p (range_with_len 0 (v - 0))) c.visit-all.ensures.plan
+    c.visit_all-2.ensures.plan
+    ∙ (ap (λ p. a p (range_with_len 0 (v - 0))) c.visit_all.ensures.plan
     ∙ (ap (λ k. a (a t (range_with_len v (c.nodes.result - v))) (range_with_len 0 k)) z
     ∙ (ap (λ k. a (a t (range_with_len v (k - v))) (range_with_len 0 v)) c.nodes.ensures
     ∙ (after-after s c.args.c most t (range_with_len v (length s - v)) (range_with_len 0 v)

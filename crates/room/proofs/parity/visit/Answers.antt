@@ -4,8 +4,8 @@ use Rattle.room.proofs.Asked.{keeps-yes, keeps-no, keeps-off, rack-at, racked}
 use Rattle.room.proofs.Visits.{load-few, visited, after-pass}
 use Rattle.room.proofs.parity.visit.Goals as goal
 
-pub take-open-requires : goal.take-open-requires
-take-open-requires g c =
+pub take_open-requires : goal.take_open-requires
+take_open-requires g c =
     let s = g.M.SiteMap.meaning c.args.map.now in
     let h : c.in-Some.rack.0 < 32 = racked s c.args.v.0 c.in-Some.rack c.in-Some.mark c.in-Some.ensures (g.M.SiteMap.limits c.args.map.now) in
     let few : length (node_numbers c.args.plan.now) < 24 = omega (arith, c.if-len-most.false, c.len.ensures, c.requires.1) in
@@ -19,7 +19,7 @@ returns-in-Yes g c =
     let r = rack-at s c.args.v.0 c.in-Some.rack c.in-Some.mark c.in-Some.ensures in
     let h : c.in-Some.rack.0 < 32 = racked s c.args.v.0 c.in-Some.rack c.in-Some.mark c.in-Some.ensures (g.M.SiteMap.limits c.args.map.now) in
     let few : length t < c.args.most = omega (arith, c.if-len-most.false, c.len.ensures) in
-    let w = visited s c.args.c c.args.most t c.args.loads.now c.requires.0 c.args.v.0 c.in-Some.rack.0 y r h few c.args.c refl (node_numbers c.take-open.new.plan) c.take-open.new.loads c.take-open.ensures.plan c.take-open.ensures.loads in
+    let w = visited s c.args.c c.args.most t c.args.loads.now c.requires.0 c.args.v.0 c.in-Some.rack.0 y r h few c.args.c refl (node_numbers c.take_open.new.plan) c.take_open.new.loads c.take_open.ensures.plan c.take_open.ensures.loads in
     record { plan = w.0; loads = w.1 }
 
 pub returns-in-No : goal.returns-in-No

@@ -6,20 +6,20 @@ use Rattle.room.proofs.space.space.Goals as goal
 pub loop-v-init : goal.loop-v-init
 loop-v-init g c = tally-none _ _ refl
 
-pub slice-bounds-tally-node-end : goal.slice-bounds-tally-node-end
-slice-bounds-tally-node-end g c = omega (arith, c.loop-v.invariant.long)
+pub slice_bounds-tally_node-end : goal.slice_bounds-tally_node-end
+slice_bounds-tally_node-end g c = omega (arith, c.loop-v.invariant.long)
 
-pub tally-node-requires : goal.tally-node-requires
-tally-node-requires g c = c.loop-v.invariant
+pub tally_node-requires : goal.tally_node-requires
+tally_node-requires g c = c.loop-v.invariant
 
 pub loop-v-preserved : goal.loop-v-preserved
-loop-v-preserved g c = c.tally-node.ensures
+loop-v-preserved g c = c.tally_node.ensures
 
-pub slice-bounds-sum-capped-end : goal.slice-bounds-sum-capped-end
-slice-bounds-sum-capped-end g c = omega (arith, c.loop-v.invariant.long)
+pub slice_bounds-sum_capped-end : goal.slice_bounds-sum_capped-end
+slice_bounds-sum_capped-end g c = omega (arith, c.loop-v.invariant.long)
 
-pub sum-capped-requires : goal.sum-capped-requires
-sum-capped-requires g c =
+pub sum_capped-requires : goal.sum_capped-requires
+sum_capped-requires g c =
     let s = g.M.SiteMap.meaning c.args.map.now in
     (λ r h. omega (arith, tally-few s c.loop-v.v c.loop-v.tally c.loop-v.invariant r (omega (arith, c.loop-v.invariant.long)), c.loop-v.auto.v-end, c.nodes-v-end.ensures, (g.M.SiteMap.limits c.args.map.now).few), c.loop-v.invariant.long)
 
@@ -28,4 +28,4 @@ returns g c =
     let s = g.M.SiteMap.meaning c.args.map.now in
     let e : c.loop-v.v ≡ length s = omega (arith, c.loop-v.auto.v-end, c.loop-v-test.false, c.nodes-v-end.ensures) in
     let t : Tallied s (length s) c.loop-v.tally = rw e at c.loop-v.invariant in
-    c.sum-capped.ensures ∙ space-by s c.args.c c.loop-v.tally t
+    c.sum_capped.ensures ∙ space-by s c.args.c c.loop-v.tally t

@@ -6,8 +6,8 @@ use Rattle.room.proofs.space.tally_node.Goals as goal
 pub bounds-tally-rack : goal.bounds-tally-rack
 bounds-tally-rack g c = omega (arith, c.requires.long, racked (g.M.SiteMap.meaning c.args.map.now) c.args.v.0 c.in-Some.rack c.in-Some.mark c.in-Some.ensures (g.M.SiteMap.limits c.args.map.now))
 
-pub overflow-add-tally : goal.overflow-add-tally
-overflow-add-tally g c =
+pub overflow_add-tally : goal.overflow_add-tally
+overflow_add-tally g c =
     let h : c.in-Some.rack.0 < 32 = racked (g.M.SiteMap.meaning c.args.map.now) c.args.v.0 c.in-Some.rack c.in-Some.mark c.in-Some.ensures (g.M.SiteMap.limits c.args.map.now) in
     omega (arith, tally-few (g.M.SiteMap.meaning c.args.map.now) c.args.v.0 c.args.tally.now c.requires c.in-Some.rack.0 h)
 

@@ -10,10 +10,10 @@ pub returns : goal.returns
 returns g c =
     let s = g.M.SiteMap.meaning c.args.store.now.map in
     record {
-      within = omega (arith, c.write-reply.ensures.value, length-take (length c.args.out.now) (reply_text c.args.first c.call-result.result (map shown c.call-result.new.rows)), min-le_left (length c.args.out.now) (length (reply_text c.args.first c.call-result.result (map shown c.call-result.new.rows))));
+      within = omega (arith, c.write_reply.ensures.value, length-take (length c.args.out.now) (reply_text c.args.first c.call-result.result (map shown c.call-result.new.rows)), min-le_left (length c.args.out.now) (length (reply_text c.args.first c.call-result.result (map shown c.call-result.new.rows))));
       map = c.call-result.ensures.told.kept;
       line = λ h first at.
           lined s h (call_of c.args.call 112) (ledger_of c.call-result.new.self) c.call-result.result _ c.call-result.new.rows
-          c.args.first c.write-reply.result c.args.out.now c.write-reply.new.out
-          (c.call-result.ensures.since h at) first c.write-reply.ensures.value c.write-reply.ensures.after (c.write-reply.ensures.short (omega arith));
+          c.args.first c.write_reply.result c.args.out.now c.write_reply.new.out
+          (c.call-result.ensures.since h at) first c.write_reply.ensures.value c.write_reply.ensures.after (c.write_reply.ensures.short (omega arith));
     }

@@ -4,7 +4,7 @@ use Rattle.text.proofs.TextLaws.{wrote_none}
 use Rattle.sheet.proofs.Texts.{no-crowd}
 use Rattle.sheet.proofs.replies.put_crowd.Goals as goal
 
-pub returns-in-default : goal.returns-in-default
-returns-in-default c =
-    let e = no-crowd c.args.refusal c.in-default.not-NoChoice in
+pub returns-in_default : goal.returns-in_default
+returns-in_default c =
+    let e = no-crowd c.args.refusal c.in_default.not-NoChoice in
     record { text = subst (Wrote _ _) (sym e) (wrote_none c.args.writer.now); short = omega (arith, ap length e) }

@@ -11,7 +11,7 @@ pub loop-row-init : goal.loop-row-init
 loop-row-init c = (wrote_none c.args.writer.now, omega arith)
 
 pub loop-row-preserved : goal.loop-row-preserved
-loop-row-preserved c = further-turn c.args.rows.now c.loop-row.row-index _ (omega arith) c.loop-row.invariant c.put.ensures c.put-row.ensures.text c.put-row.ensures.short
+loop-row-preserved c = further-turn c.args.rows.now c.loop-row.row-index _ (omega arith) c.loop-row.invariant c.put.ensures c.put_row.ensures.text c.put_row.ensures.short
 
 pub returns : goal.returns
 returns c =

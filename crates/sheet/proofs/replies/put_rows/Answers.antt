@@ -12,8 +12,8 @@ returns-then-rows-gt0 c =
     let rows = c.args.rows.now in
     let e = rows-first rows _ (omega arith) in
     record {
-      text = subst (Wrote _ _) (sym e) (wrote-more _ _ c.put-row.ensures.text c.put-further.ensures.text);
-      short = rows_short rows _ (omega arith) c.put-row.ensures.short c.put-further.ensures.short;
+      text = subst (Wrote _ _) (sym e) (wrote-more _ _ c.put_row.ensures.text c.put_further.ensures.text);
+      short = rows_short rows _ (omega arith) c.put_row.ensures.short c.put_further.ensures.short;
     }
 
 pub returns-else-rows-gt0 : goal.returns-else-rows-gt0

@@ -9,6 +9,6 @@ pub returns : goal.returns
 returns c =
     let z = c.new-writer.ensures.at in
     let b = c.new-writer.ensures.buffer in
-    let w = wrote-whole heading z c.put-bytes.ensures ∙ ap (λ (l : List ℕ). whole l heading) b in
-    let n = sym (c.put-bytes.ensures.lent ∙ c.new-writer.ensures.lent) in
-    record { value = c.len.ensures ∙ wrote-length heading z c.put-bytes.ensures ∙ ap (λ (l : List ℕ). length (take (length l) heading)) b; after = search rules }
+    let w = wrote-whole heading z c.put_bytes.ensures ∙ ap (λ (l : List ℕ). whole l heading) b in
+    let n = sym (c.put_bytes.ensures.lent ∙ c.new-writer.ensures.lent) in
+    record { value = c.len.ensures ∙ wrote-length heading z c.put_bytes.ensures ∙ ap (λ (l : List ℕ). length (take (length l) heading)) b; after = search rules }

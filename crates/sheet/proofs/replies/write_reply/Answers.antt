@@ -12,7 +12,7 @@ returns c =
     let a = status c.args.res in
     let rest = rest_text c.args.res (map shown c.args.rows.now) in
     let t = reply_text first c.args.res (map shown c.args.rows.now) in
-    let all = wrote-more a _ c.put-status.ensures.text (wrote-more _ _ c.put.ensures (wrote-more (decimal first) _ c.put-number.ensures (wrote-more _ _ c.put-2.ensures (wrote-more rest _ c.put-rest.ensures.text c.put-3.ensures)))) in
+    let all = wrote-more a _ c.put_status.ensures.text (wrote-more _ _ c.put.ensures (wrote-more (decimal first) _ c.put_number.ensures (wrote-more _ _ c.put-2.ensures (wrote-more rest _ c.put_rest.ensures.text c.put-3.ensures)))) in
     let z = c.new-writer.ensures.at in
     let b = c.new-writer.ensures.buffer in
     let w = wrote-whole t z all ∙ ap (λ (l : List ℕ). whole l t) b in
@@ -20,5 +20,5 @@ returns c =
     record {
       value = c.len.ensures ∙ wrote-length t z all ∙ ap (λ (l : List ℕ). length (take (length l) t)) b;
       after = search rules;
-      short = λ few. omega (arith, length-line a (decimal first) rest, word-short first (omega arith), c.put-status.ensures.short, c.put-rest.ensures.short);
+      short = λ few. omega (arith, length-line a (decimal first) rest, word-short first (omega arith), c.put_status.ensures.short, c.put_rest.ensures.short);
     }

@@ -10,8 +10,8 @@ use Rattle.store.proofs.Written.{node_at, count-more, nodes-few, slice-long}
 use Rattle.store.proofs.reads.count_standing.Goals as goal
 use Rattle.store.proofs.reads.count_standing.Goals.{then-stands, else-stands}
 
-pub overflow-add-count : goal.overflow-add-count
-overflow-add-count g c = omega (arith, c.loop-v.invariant.1, c.loop-v-test.true, nodes-few c.args.planned.now, slice-long c.as-slice-v-items.result.now (node_numbers c.args.planned.now) c.as-slice-v-items.ensures)
+pub overflow_add-count : goal.overflow_add-count
+overflow_add-count g c = omega (arith, c.loop-v.invariant.1, c.loop-v-test.true, nodes-few c.args.planned.now, slice-long c.as_slice-v-items.result.now (node_numbers c.args.planned.now) c.as_slice-v-items.ensures)
 
 pub loop-v-preserved : goal.loop-v-preserved
 loop-v-preserved g c =
@@ -19,8 +19,8 @@ loop-v-preserved g c =
     let p = node_numbers c.args.planned.now in
     let i = c.loop-v.v-index in
     let f : ℕ → Bool = λ v. not (has v (numbers c.args.lost.now)) && not (member c.args.racks (node_rack s v)) in
-    let h : i < length p = omega (arith, c.loop-v-test.true, ap length c.as-slice-v-items.ensures, length-map c.as-slice-v-items.result.now (λ v. v.0)) in
-    let at = node_at c.as-slice-v-items.result.now p i (record { 0 = 0 }) c.as-slice-v-items.ensures h in
+    let h : i < length p = omega (arith, c.loop-v-test.true, ap length c.as_slice-v-items.ensures, length-map c.as_slice-v-items.result.now (λ v. v.0)) in
+    let at = node_at c.as_slice-v-items.result.now p i (record { 0 = 0 }) c.as_slice-v-items.ensures h in
     let m = count-more f p i c.stands.result h (c.stands.ensures ∙ ap f (sym at.1)) in
     let old = c.loop-v.invariant in
     elim c.if-stands.branch [
@@ -30,4 +30,4 @@ loop-v-preserved g c =
 
 pub returns : goal.returns
 returns g c =
-    c.loop-v.invariant.0 ∙ ap (λ l. stand (g.M.SiteMap.meaning c.args.map.now) l (numbers c.args.lost.now) c.args.racks) (take_all c.loop-v.v-index (node_numbers c.args.planned.now) (omega (arith, c.loop-v-test.false, ap length c.as-slice-v-items.ensures, length-map c.as-slice-v-items.result.now (λ v. v.0))))
+    c.loop-v.invariant.0 ∙ ap (λ l. stand (g.M.SiteMap.meaning c.args.map.now) l (numbers c.args.lost.now) c.args.racks) (take_all c.loop-v.v-index (node_numbers c.args.planned.now) (omega (arith, c.loop-v-test.false, ap length c.as_slice-v-items.ensures, length-map c.as_slice-v-items.result.now (λ v. v.0))))

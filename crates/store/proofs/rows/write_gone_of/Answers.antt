@@ -11,8 +11,8 @@ use Rattle.store.proofs.rows.write_gone_of.Goals.{then-w-stays, else-w-stays}
 pub loop-w-init : goal.loop-w-init
 loop-w-init g c = (omega arith, omega arith, λ _. gone-start (lines c.args.rows.now) c.args.at)
 
-pub overflow-add-end : goal.overflow-add-end
-overflow-add-end g c =
+pub overflow_add-end : goal.overflow_add-end
+overflow_add-end g c =
     let b = c.args.block.now in
     omega (arith, c.loop-w.invariant.1, c.requires, c.loop-w-test.true, slice-long c.nodes-w-items.result.now (copies_of b) c.nodes-w-items.ensures, copies_length b, b.few)
 
@@ -29,8 +29,8 @@ loop-w-preserved g c =
     let at = node_at c.nodes-w-items.result.now vs j (record { 0 = 0 }) c.nodes-w-items.ensures h in
     elim c.if-w-stays.branch [
       | then-w-stays w ↦ (
-          let row_is = w.row-of.ensures ∙ ap (λ n. (2, n, (get_or c.nodes-w-items.result.now j (record { 0 = 0 })).0, node_rack s (get_or c.nodes-w-items.result.now j (record { 0 = 0 })).0)) w.number.ensures in
-          let q = gone-put s b.number vs v j old c.loop-w.rows c.args.at c.loop-w.end h inv.0 inv.2 w.row-of.result _ at.1 w.if-w-stays.true row_is in
+          let row_is = w.row_of.ensures ∙ ap (λ n. (2, n, (get_or c.nodes-w-items.result.now j (record { 0 = 0 })).0, node_rack s (get_or c.nodes-w-items.result.now j (record { 0 = 0 })).0)) w.number.ensures in
+          let q = gone-put s b.number vs v j old c.loop-w.rows c.args.at c.loop-w.end h inv.0 inv.2 w.row_of.result _ at.1 w.if-w-stays.true row_is in
           rw (w.end-is, w.rows-is, w.put.ensures) (q.0, omega (arith, inv.1), q.1))
       | else-w-stays w ↦ (
           let q = gone-stay s b.number vs v j old c.loop-w.rows c.args.at c.loop-w.end h inv.0 inv.2 (at.1 ∙ w.if-w-stays.false) in

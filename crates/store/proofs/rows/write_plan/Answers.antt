@@ -9,8 +9,8 @@ use Rattle.store.proofs.rows.write_plan.Goals as goal
 pub loop-i-init : goal.loop-i-init
 loop-i-init g c room = plan-none (g.M.SiteMap.meaning c.args.map.now) (helds_of c.args.blocks.now) (lines c.args.rows.now)
 
-pub planned-row-requires : goal.planned-row-requires
-planned-row-requires g c = omega (arith, c.loop-i-test.true, nodes-few c.args.plan.now, slice-long c.as-slice-v-items.result.now (node_numbers c.args.plan.now) c.as-slice-v-items.ensures)
+pub planned_row-requires : goal.planned_row-requires
+planned_row-requires g c = omega (arith, c.loop-i-test.true, nodes-few c.args.plan.now, slice-long c.as_slice-v-items.result.now (node_numbers c.args.plan.now) c.as_slice-v-items.ensures)
 
 pub loop-i-preserved : goal.loop-i-preserved
 loop-i-preserved g c room =
@@ -18,17 +18,17 @@ loop-i-preserved g c room =
     let bs = helds_of c.args.blocks.now in
     let p = node_numbers c.args.plan.now in
     let i = c.loop-i.i in
-    let vs = c.as-slice-v-items.result.now in
-    let h : i < length p = omega (arith, c.loop-i-test.true, slice-long vs p c.as-slice-v-items.ensures) in
-    let at = node_at vs p i (record { 0 = 0 }) c.as-slice-v-items.ensures h in
-    ap lines c.put.ensures ∙ plan-more s bs p c.args.rows.now c.loop-i.rows i c.planned-row.result h (omega (arith, room, h)) (c.planned-row.ensures ∙ ap (plan_row s bs i) (sym at.1)) (c.loop-i.invariant room)
+    let vs = c.as_slice-v-items.result.now in
+    let h : i < length p = omega (arith, c.loop-i-test.true, slice-long vs p c.as_slice-v-items.ensures) in
+    let at = node_at vs p i (record { 0 = 0 }) c.as_slice-v-items.ensures h in
+    ap lines c.put.ensures ∙ plan-more s bs p c.args.rows.now c.loop-i.rows i c.planned_row.result h (omega (arith, room, h)) (c.planned_row.ensures ∙ ap (plan_row s bs i) (sym at.1)) (c.loop-i.invariant room)
 
 pub returns : goal.returns
 returns g c =
     let s = g.M.SiteMap.meaning c.args.map.now in
     let bs = helds_of c.args.blocks.now in
     let p = node_numbers c.args.plan.now in
-    let n = slice-long c.as-slice-v-items.result.now p c.as-slice-v-items.ensures in
+    let n = slice-long c.as_slice-v-items.result.now p c.as_slice-v-items.ensures in
     let all : c.loop-i.i ≡ c.len.result = omega (arith, n, c.len.ensures, c.loop-i.auto, c.loop-i-test.false) in
     record {
       count = c.len.ensures ∙ sym (plan-length s bs p);

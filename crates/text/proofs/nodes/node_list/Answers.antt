@@ -8,12 +8,12 @@ use Rattle.text.proofs.NumberLaws.{not-empty}
 use Rattle.text.proofs.PieceLaws.{length-falls}
 use Rattle.text.proofs.nodes.node_list.Goals as goal
 
-pub returns-in-default-number : goal.returns-in-default-number
-returns-in-default-number c =
+pub returns-in_default-number : goal.returns-in_default-number
+returns-in_default-number c =
     let i = c.loop-left.invariant in
-    let is = ap (rest 32) c.in-Some.is ∙ c.split-first.ensures.pieces in
+    let is = ap (rest 32) c.in-Some.is ∙ c.split_first.ensures.pieces in
     record {
-      value = ap kept (sym (turn-bad i.0 _ c.split-first.result.0.now _ is c.in-default-number.ensures.value) ∙ i.4);
+      value = ap kept (sym (turn-bad i.0 _ c.split_first.result.0.now _ is c.in_default-number.ensures.value) ∙ i.4);
       exact = listed c.args.bytes.now;
     }
 
@@ -22,12 +22,12 @@ loop-left-preserved c =
     let i = c.loop-left.invariant in
     let vs = i.0 in
     let node = c.in-Some-number.node in
-    let word = c.split-first.result.0.now in
-    let more = c.split-first.result.1 in
-    let is = ap (rest 32) c.in-Some.is ∙ c.split-first.ensures.pieces in
+    let word = c.split_first.result.0.now in
+    let more = c.split_first.result.1 in
+    let is = ap (rest 32) c.in-Some.is ∙ c.split_first.ensures.pieces in
     let number = c.in-Some-number.ensures.exact in
     let some : 0 < length word = not-empty word node (omega (arith, number.0)) number.1 in
-    let fewer = length-falls c.in-Some.text.now word more c.split-first.ensures.shorter in
+    let fewer = length-falls c.in-Some.text.now word more c.split_first.ensures.shorter in
     let longer = length_push vs node in (
       vs ++ node ∷ [],
       c.keep.ensures.nodes vs i.1 i.2,
@@ -40,6 +40,6 @@ pub returns : goal.returns
 returns c =
     let i = c.loop-left.invariant in
     record {
-      value = kept_whole c.loop-left.list i.0 _ i.1 i.2 (sym (ap (λ m. after i.0 (numbers_in 65535 (rest 32 m))) c.in-default.is) ∙ i.4);
+      value = kept_whole c.loop-left.list i.0 _ i.1 i.2 (sym (ap (λ m. after i.0 (numbers_in 65535 (rest 32 m))) c.in_default.is) ∙ i.4);
       exact = listed c.args.bytes.now;
     }

@@ -8,9 +8,9 @@ use Rattle.text.proofs.NumberLaws.{exact-is, digit-is, not-empty, no-zero-first,
 use Rattle.text.proofs.number.number.Goals as goal
 use Rattle.text.proofs.number.number.Goals.{then-b-lt48-via-then-b-lt48, then-b-lt48-via-else-b-lt48+then-b-gt57}
 
-pub returns-then-is-empty : goal.returns-then-is-empty
-returns-then-is-empty c =
-    let e : Numbered c.args.limit c.args.bytes.now None = λ v h e. omega (arith, not-empty _ v (omega arith) e, true-eqb _ 0 c.if-is-empty.ensures) in
+pub returns-then-is_empty : goal.returns-then-is_empty
+returns-then-is_empty c =
+    let e : Numbered c.args.limit c.args.bytes.now None = λ v h e. omega (arith, not-empty _ v (omega arith) e, true-eqb _ 0 c.if-is_empty.ensures) in
     record { value = exact-is c.args.limit c.args.bytes.now None (omega arith) e; exact = e }
 
 pub returns-then-bytes-gt1 : goal.returns-then-bytes-gt1
@@ -46,6 +46,6 @@ returns c =
     let all : take c.loop-b.b-index c.args.bytes.now ≡ c.args.bytes.now = take_all _ _ (omega arith) in
     let v : c.loop-b.value ≡ digits_value 10 c.args.bytes.now = c.loop-b.invariant.1 ∙ ap (digits_value 10) all in
     let digits = subst (AllDigits 10) all c.loop-b.invariant.0 in
-    let d = is-decimal c.args.bytes.now digits (omega (arith, false-eqb _ 0 c.if-is-empty.ensures)) (λ z. ⊎_elim (λ h. omega (arith, h, false-eqb _ 0 c.if-is-empty.ensures)) (λ h. absurd (h z)) c.else-bytes-eq48.either) (omega (arith, v)) in
+    let d = is-decimal c.args.bytes.now digits (omega (arith, false-eqb _ 0 c.if-is_empty.ensures)) (λ z. ⊎_elim (λ h. omega (arith, h, false-eqb _ 0 c.if-is_empty.ensures)) (λ h. absurd (h z)) c.else-bytes-eq48.either) (omega (arith, v)) in
     let e : Numbered c.args.limit c.args.bytes.now (Some c.loop-b.value) = (c.loop-b.invariant.2, d ∙ ap decimal (sym v)) in
     record { value = exact-is c.args.limit c.args.bytes.now (Some c.loop-b.value) (omega arith) e; exact = e }

@@ -20,8 +20,8 @@ loop-i-preserved c =
     let p = filled-push (record { 0 = 0 }) 8 c.loop-i.i (take c.loop-i.i c.args.nodes.now) _ (length-take-le c.loop-i.i c.args.nodes.now (omega arith)) (omega arith) in
     rw c.loop-i.invariant (p ∙ ap (filled (record { 0 = 0 }) 8) (sym t))
 
-pub invariant-of-result : goal.invariant-of-result
-invariant-of-result c =
+pub invariant_of-result : goal.invariant_of-result
+invariant_of-result c =
     let w = whole c.loop-i.own c.args.nodes.now c.loop-i.i c.loop-i.invariant c.loop-i-test.false in
     (c.if-nodes-lt-FEWEST.false, (c.if-nodes-gt-COPIES.false, (ap length w ∙ length-filled (record { 0 = 0 }) 8 c.args.nodes.now c.if-nodes-gt-COPIES.false, (blanks c.loop-i.own c.args.nodes.now w, tt))))
 

@@ -7,11 +7,11 @@ use Rattle.store.proofs.Tells.{told-refusal, told-done, unnamed-call, abandon-no
 use Rattle.store.proofs.Fits.{fits-put, allowed-empty}
 use Rattle.store.proofs.store.Store.abandon.Goals as goal
 
-pub invariant-of-self : goal.invariant-of-self
-invariant-of-self g c = fits-put c.args.self.now c.args.rack.0 c.clear.new.self (allowed-empty c.args.self.now.code c.clear.new.self c.clear.ensures)
+pub invariant_of-self : goal.invariant_of-self
+invariant_of-self g c = fits-put c.args.self.now c.args.rack.0 c.clear.new.self (allowed-empty c.args.self.now.code c.clear.new.self c.clear.ensures)
 
-pub invariant-of-self-in-Sealed : goal.invariant-of-self-in-Sealed
-invariant-of-self-in-Sealed g c = fits-put c.args.self.now c.args.rack.0 c.clear-in-Sealed.new.self (allowed-empty c.args.self.now.code c.clear-in-Sealed.new.self c.clear-in-Sealed.ensures)
+pub invariant_of-self-in-Sealed : goal.invariant_of-self-in-Sealed
+invariant_of-self-in-Sealed g c = fits-put c.args.self.now c.args.rack.0 c.clear-in-Sealed.new.self (allowed-empty c.args.self.now.code c.clear-in-Sealed.new.self c.clear-in-Sealed.ensures)
 
 pub returns-in-Empty : goal.returns-in-Empty
 returns-in-Empty g c =

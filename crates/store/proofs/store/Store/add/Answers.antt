@@ -16,8 +16,8 @@ pub add-requires : goal.add-requires
 add-requires g c =
     omega (arith, c.requires.below, c.args.code.small, ap (λ x. length (led.blocks_of x)) (stripe-at c.args.self.now c.args.rack.0 c.requires.near c.index-self-rack-in-Ok.result))
 
-pub invariant-of-self : goal.invariant-of-self
-invariant-of-self g c =
+pub invariant_of-self : goal.invariant_of-self
+invariant_of-self g c =
     let st = c.args.self.now in
     let own = led.blocks_of (stripe_of (get_or st.stripes c.args.rack.0 c.index-self-rack-in-Ok.result)) in
     fits-put st c.args.rack.0 c.add.new.self

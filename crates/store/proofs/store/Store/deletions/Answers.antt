@@ -12,12 +12,12 @@ returns-in-Filling g c =
     let st = c.args.self.now in
     deletions-unsealed (g.M.SiteMap.meaning st.map) st c.args.rack.0 c.index-self-rack.result c.in-Some.field-0 c.in-Some.is c.if-rack-ge-RACKS.false _ c.in-Filling.is refl c.args.rows.now
 
-pub returns-then-rows-spare-copies : goal.returns-then-rows-spare-copies
-returns-then-rows-spare-copies g c =
+pub returns-then-rows-spare_copies : goal.returns-then-rows-spare_copies
+returns-then-rows-spare_copies g c =
     let st = c.args.self.now in
-    deletions-short (g.M.SiteMap.meaning st.map) st c.args.rack.0 c.index-self-rack.result c.in-Some.field-0 c.in-Some.is c.if-rack-ge-RACKS.false c.in-Sealed.blocks c.in-Sealed.planned c.in-Sealed.is c.args.rows.now (omega (arith, c.if-rows-spare-copies.true, c.spare-copies.ensures))
+    deletions-short (g.M.SiteMap.meaning st.map) st c.args.rack.0 c.index-self-rack.result c.in-Some.field-0 c.in-Some.is c.if-rack-ge-RACKS.false c.in-Sealed.blocks c.in-Sealed.planned c.in-Sealed.is c.args.rows.now (omega (arith, c.if-rows-spare_copies.true, c.spare_copies.ensures))
 
-pub returns-else-rows-spare-copies : goal.returns-else-rows-spare-copies
-returns-else-rows-spare-copies g c =
+pub returns-else-rows-spare_copies : goal.returns-else-rows-spare_copies
+returns-else-rows-spare_copies g c =
     let st = c.args.self.now in
-    deletions-told (g.M.SiteMap.meaning st.map) st c.args.rack.0 c.index-self-rack.result c.in-Some.field-0 c.in-Some.is c.if-rack-ge-RACKS.false c.in-Sealed.blocks c.in-Sealed.planned c.in-Sealed.is c.args.rows.now c.write-gone.new.rows c.write-gone.result (omega (arith, c.if-rows-spare-copies.false, c.spare-copies.ensures)) c.write-gone.ensures.count c.write-gone.ensures.rows
+    deletions-told (g.M.SiteMap.meaning st.map) st c.args.rack.0 c.index-self-rack.result c.in-Some.field-0 c.in-Some.is c.if-rack-ge-RACKS.false c.in-Sealed.blocks c.in-Sealed.planned c.in-Sealed.is c.args.rows.now c.write_gone.new.rows c.write_gone.result (omega (arith, c.if-rows-spare_copies.false, c.spare_copies.ensures)) c.write_gone.ensures.count c.write_gone.ensures.rows

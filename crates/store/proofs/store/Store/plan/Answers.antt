@@ -20,4 +20,4 @@ returns-then-rows-n g c =
 pub returns-else-rows-n : goal.returns-else-rows-n
 returns-else-rows-n g c =
     let st = c.args.self.now in
-    plan-told (g.M.SiteMap.meaning st.map) st c.args.rack.0 c.index-self-rack.result c.in-Some.code c.in-Some.is c.if-rack-ge-RACKS.false c.in-Sealed.blocks c.in-Sealed.planned c.in-Sealed.is c.args.rows.now c.write-plan.new.rows c.write-plan.result (omega (arith, c.if-rows-n.false, c.n.ensures)) c.write-plan.ensures.count c.write-plan.ensures.rows
+    plan-told (g.M.SiteMap.meaning st.map) st c.args.rack.0 c.index-self-rack.result c.in-Some.code c.in-Some.is c.if-rack-ge-RACKS.false c.in-Sealed.blocks c.in-Sealed.planned c.in-Sealed.is c.args.rows.now c.write_plan.new.rows c.write_plan.result (omega (arith, c.if-rows-n.false, c.n.ensures)) c.write_plan.ensures.count c.write_plan.ensures.rows

@@ -11,8 +11,8 @@ use Rattle.store.proofs.Tells.{told-done, put-done}
 use Rattle.store.proofs.Offering.{seal-below, seal-again, seal-none, seal-noted}
 use Rattle.store.proofs.store.Store.seal.Goals as goal
 
-pub invariant-of-self : goal.invariant-of-self
-invariant-of-self g c =
+pub invariant_of-self : goal.invariant_of-self
+invariant_of-self g c =
     let st = c.args.self.now in
     let r = c.args.rack.0 in
     let d = c.index-self-rack-in-Filling.result in

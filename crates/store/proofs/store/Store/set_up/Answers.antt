@@ -3,11 +3,11 @@ use Rattle.store.proofs.Coded.{set_up-told}
 use Rattle.store.proofs.Fits.{fits-code}
 use Rattle.store.proofs.store.Store.set_up.Goals as goal
 
-pub invariant-of-self : goal.invariant-of-self
-invariant-of-self g c = (c.args.self.now.full, (fits-code c.args.self.now c.in-Some-new.code c.in-default.is, tt))
+pub invariant_of-self : goal.invariant_of-self
+invariant_of-self g c = (c.args.self.now.full, (fits-code c.args.self.now c.in-Some-new.code c.in_default.is, tt))
 
 pub returns : goal.returns
 returns g c =
     let st = c.args.self.now in
     let e = c.in-Some-new.ensures in
-    set_up-told (g.M.SiteMap.meaning st.map) st c.args.n c.args.k c.args.c c.in-default.is c.in-Some-new.code _ _ e.0 e.1 e.2 e.3 (omega (arith, c.if-space-n.false, c.space.ensures))
+    set_up-told (g.M.SiteMap.meaning st.map) st c.args.n c.args.k c.args.c c.in_default.is c.in-Some-new.code _ _ e.0 e.1 e.2 e.3 (omega (arith, c.if-space-n.false, c.space.ensures))

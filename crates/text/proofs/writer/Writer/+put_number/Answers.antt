@@ -8,4 +8,4 @@ pub returns-then-n-lt10 : goal.returns-then-n-lt10
 returns-then-n-lt10 t c = subst (Wrote _ _) (sym (decimal_digit c.args.n (omega arith))) c.put.ensures
 
 pub returns : goal.returns
-returns t c = subst (Wrote _ _) (sym (decimal_step c.args.n (omega arith) (omega arith))) (wrote-more _ _ c.put-number.ensures c.put-2.ensures)
+returns t c = subst (Wrote _ _) (sym (decimal_step c.args.n (omega arith) (omega arith))) (wrote-more _ _ c.put_number.ensures c.put-2.ensures)

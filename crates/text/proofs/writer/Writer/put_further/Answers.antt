@@ -16,7 +16,7 @@ loop-n-preserved c =
     let xs = c.args.numbers.now in
     let i = c.loop-n.n-index in
     let e = flat_map_more spaced_one [] (take i xs) (get_or xs i 0) ∙ ap (flat_map spaced_one) (sym (take_more xs i 0 (omega arith))) in
-    subst (Wrote _ _) e (wrote-more _ _ c.loop-n.invariant (wrote-more _ _ c.put.ensures c.put-number.ensures))
+    subst (Wrote _ _) e (wrote-more _ _ c.loop-n.invariant (wrote-more _ _ c.put.ensures c.put_number.ensures))
 
 pub returns : goal.returns
 returns c = subst (Wrote _ _) (ap (flat_map spaced_one) (take_all _ c.args.numbers.now (omega arith))) c.loop-n.invariant
