@@ -18,13 +18,13 @@ returns-in_default c =
 pub returns-in_err-check_row : goal.returns-in_err-check_row
 returns-in_err-check_row c =
     let l = c.args.lines.now in
-    let p = err_from_is_err_and c.from-residual.result c.from-residual.ensures.1 in
+    let p = err_from_is_err_and c.from_residual.result c.from_residual.ensures.1 in
     rw (p.1, p.2) (code-row-read l.number (left_of l) c.in-Some.names (left_of c.next_line.new.self) c.next_line.new.self.number c.in-Some-code_order.order c.next_or_empty-line.result _ _ c.in-Some.ensures.next c.in-Some-code_order.ensures c.next_or_empty-line.ensures _ c.in_err-check_row.ensures)
 
 pub returns-in_err-end_code : goal.returns-in_err-end_code
 returns-in_err-end_code c =
     let l = c.args.lines.now in
-    let p = err_from_is_err_and c.from-residual-in_err-end_code.result c.from-residual-in_err-end_code.ensures.1 in
+    let p = err_from_is_err_and c.from_residual-in_err-end_code.result c.from_residual-in_err-end_code.ensures.1 in
     rw (p.1, p.2) (code-end-read l.number (left_of l) c.in-Some.names (left_of c.next_line.new.self) c.next_line.new.self.number c.in-Some-code_order.order c.next_or_empty-line.result (left_of c.next_or_empty-line.new.lines) c.next_or_empty-line.new.lines.number c.in-Some.ensures.next c.in-Some-code_order.ensures c.next_or_empty-line.ensures c.in_ok-check_row.ensures _ (left_of c.end_code.new.lines) c.end_code.new.lines.number c.in_err-end_code.ensures)
 
 pub returns : goal.returns

@@ -23,7 +23,7 @@ returns-in_err-place c =
     let i = c.loop-line.invariant in
     let l = c.loop-line.lines in
     let is = c.args.order.now in
-    let p = err_from_is_err_and c.from-residual.result c.from-residual.ensures.1 in
+    let p = err_from_is_err_and c.from_residual.result c.from_residual.ensures.1 in
     rw (p.1, p.2) (least-same (NodesFault is l.number c.loop-line.count (left_of l)) (NodesFault is c.args.lines.now.number 0 (left_of c.args.lines.now)) _ i.0
     (turn-wrong is l.number c.loop-line.count (left_of l) c.in-Some.line _ _ c.in-Some.ensures.next c.in-Some.ensures.short (not-zero _ (eqb-false _ 0 (sym c.if-is_empty.ensures))) _ c.in_err-place.ensures))
 

@@ -23,7 +23,12 @@ loop-i-preserved c =
 pub invariant_of-result : goal.invariant_of-result
 invariant_of-result c =
     let w = whole c.loop-i.own c.args.nodes.now c.loop-i.i c.loop-i.invariant c.loop-i-test.false in
-    (c.if-nodes-lt-FEWEST.false, (c.if-nodes-gt-COPIES.false, (ap length w ∙ length-filled (record { 0 = 0 }) 8 c.args.nodes.now c.if-nodes-gt-COPIES.false, (blanks c.loop-i.own c.args.nodes.now w, tt))))
+    record {
+      enough = c.if-nodes-lt-FEWEST.false;
+      few = c.if-nodes-gt-COPIES.false;
+      full = ap length w ∙ length-filled (record { 0 = 0 }) 8 c.args.nodes.now c.if-nodes-gt-COPIES.false;
+      blank = blanks c.loop-i.own c.args.nodes.now w;
+    }
 
 pub returns : goal.returns
 returns c =

@@ -7,7 +7,11 @@ use Rattle.blocks.proofs.lists.Blocks.push.Goals as goal
 pub invariant_of-self : goal.invariant_of-self
 invariant_of-self c =
     let b = c.args.self.now in
-    (omega (arith, b.few, c.if-self-eq-BLOCKS.false), (length-set b.at b.len c.args.block ∙ b.full, (blank-more told 16 b.len b.at c.args.block _ (omega (arith, b.few, b.full, c.if-self-eq-BLOCKS.false)) (omega (arith, b.few, c.if-self-eq-BLOCKS.false)) b.blank, tt)))
+    record {
+      few = omega (arith, b.few, c.if-self-eq-BLOCKS.false);
+      full = length-set b.at b.len c.args.block ∙ b.full;
+      blank = blank-more told 16 b.len b.at c.args.block _ (omega (arith, b.few, b.full, c.if-self-eq-BLOCKS.false)) (omega (arith, b.few, c.if-self-eq-BLOCKS.false)) b.blank;
+    }
 
 pub returns : goal.returns
 returns c =

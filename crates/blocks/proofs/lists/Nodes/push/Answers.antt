@@ -6,7 +6,11 @@ use Rattle.blocks.proofs.lists.Nodes.push.Goals as goal
 pub invariant_of-self : goal.invariant_of-self
 invariant_of-self c =
     let p = c.args.self.now in
-    (omega (arith, p.few, c.if-self-eq-PLANNED.false), (length-set p.at p.len c.args.v ∙ p.full, (blank-more (λ v. v.0) 24 p.len p.at c.args.v 0 (omega (arith, p.few, p.full, c.if-self-eq-PLANNED.false)) (omega (arith, p.few, c.if-self-eq-PLANNED.false)) p.blank, tt)))
+    record {
+      few = omega (arith, p.few, c.if-self-eq-PLANNED.false);
+      full = length-set p.at p.len c.args.v ∙ p.full;
+      blank = blank-more (λ v. v.0) 24 p.len p.at c.args.v 0 (omega (arith, p.few, p.full, c.if-self-eq-PLANNED.false)) (omega (arith, p.few, c.if-self-eq-PLANNED.false)) p.blank;
+    }
 
 pub returns : goal.returns
 returns c =

@@ -27,7 +27,7 @@ returns-in_err-call g c =
       map = told.kept;
       refused = λ _ _. ap (λ (x : Store g.row.M.Denot). record { lines = was.lines; order = was.order; store = x }) (told.refused refl).0;
       begun = λ h had.
-          unbegun-refused (g.M.SiteMap.meaning was.store.map) h c.args.code was.order (left_of was.lines) was.lines.number c.from-residual.result
-          (record { lines = was.lines; order = was.order; store = c.call.new.self }) e c.from-residual.ensures
+          unbegun-refused (g.M.SiteMap.meaning was.store.map) h c.args.code was.order (left_of was.lines) was.lines.number c.from_residual.result
+          (record { lines = was.lines; order = was.order; store = c.call.new.self }) e c.from_residual.ensures
           _ _ _ (c.in_err-call.ensures.since h had);
     }
