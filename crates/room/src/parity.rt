@@ -52,7 +52,7 @@ fn take_open(plan: &mut Nodes, loads: &mut [u32], c: u32, rack: Rack, v: Node)
 
 // One more node visited.
 fn visit<M: SiteMap>(map: &M, c: u32, most: usize, plan: &mut Nodes, loads: &mut [u32], v: Node)
-    requires loads_2 { Loads (M.SiteMap.meaning map.now) (node_numbers plan.old) loads.old }
+    requires loaded { Loads (M.SiteMap.meaning map.now) (node_numbers plan.old) loads.old }
     requires most_bound { most ≤ 24 }
     ensures plan { node_numbers plan.new ≡ after (M.SiteMap.meaning map.now) c most (node_numbers plan.old) (v.0 ∷ []) }
     ensures loads { Loads (M.SiteMap.meaning map.now) (node_numbers plan.new) loads.new }
@@ -79,7 +79,7 @@ fn visit_all<M: SiteMap>(
     from: u16,
     to: u16,
 )
-    requires loads_2 { Loads (M.SiteMap.meaning map.now) (node_numbers plan.old) loads.old }
+    requires loaded { Loads (M.SiteMap.meaning map.now) (node_numbers plan.old) loads.old }
     requires most_bound { most ≤ 24 }
     ensures plan { node_numbers plan.new ≡ after (M.SiteMap.meaning map.now) c most (node_numbers plan.old) (range_with_len from (to - from)) }
     ensures loads { Loads (M.SiteMap.meaning map.now) (node_numbers plan.new) loads.new }

@@ -22,16 +22,16 @@ loads_of-loads-requires g c =
     omega (arith, length-map c.as_slice.result.now (λ v. v.0), ap length c.as_slice.ensures, few c.args.plan.now)
 
 pub visit_all-requires : goal.visit_all-requires
-visit_all-requires g c = (
-  subst (λ t. Loads (g.M.SiteMap.meaning c.args.map.now) t c.loads_of-loads.result) c.as_slice.ensures c.loads_of-loads.ensures,
-  omega (arith, c.min.ensures, min-le_right c.args.left (24 - c.len-taken.result), c.len-taken.ensures, few c.args.plan.now),
-)
+visit_all-requires g c = record {
+  loaded = subst (λ t. Loads (g.M.SiteMap.meaning c.args.map.now) t c.loads_of-loads.result) c.as_slice.ensures c.loads_of-loads.ensures;
+  most_bound = omega (arith, c.min.ensures, min-le_right c.args.left (24 - c.len-taken.result), c.len-taken.ensures, few c.args.plan.now);
+}
 
 pub visit_all-requires-2 : goal.visit_all-requires-2
-visit_all-requires-2 g c = (
-  c.visit_all.ensures.loads,
-  omega (arith, c.min.ensures, min-le_right c.args.left (24 - c.len-taken.result), c.len-taken.ensures, few c.args.plan.now),
-)
+visit_all-requires-2 g c = record {
+  loaded = c.visit_all.ensures.loads;
+  most_bound = omega (arith, c.min.ensures, min-le_right c.args.left (24 - c.len-taken.result), c.len-taken.ensures, few c.args.plan.now);
+}
 
 pub returns : goal.returns
 returns g c =

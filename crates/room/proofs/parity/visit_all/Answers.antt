@@ -7,7 +7,7 @@ use Rattle.room.proofs.parity.visit_all.Goals as goal
 
 pub loop-v-init : goal.loop-v-init
 loop-v-init g c =
-    (after-start (g.M.SiteMap.meaning c.args.map.now) c.args.c c.args.most (node_numbers c.args.plan.now) c.args.from, c.requires.0, omega arith)
+    (after-start (g.M.SiteMap.meaning c.args.map.now) c.args.c c.args.most (node_numbers c.args.plan.now) c.args.from, c.requires.loaded, omega arith)
 
 pub loop-v-preserved : goal.loop-v-preserved
 loop-v-preserved g c =

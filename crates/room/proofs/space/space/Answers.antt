@@ -21,7 +21,10 @@ slice_bounds-sum_capped-end g c = omega (arith, c.loop-v.invariant.long)
 pub sum_capped-requires : goal.sum_capped-requires
 sum_capped-requires g c =
     let s = g.M.SiteMap.meaning c.args.map.now in
-    (λ r h. omega (arith, tally-few s c.loop-v.v c.loop-v.tally c.loop-v.invariant r (omega (arith, c.loop-v.invariant.long)), c.loop-v.auto.v-end, c.nodes-v-end.ensures, (g.M.SiteMap.limits c.args.map.now).few), c.loop-v.invariant.long)
+    record {
+      by_index = λ r h. omega (arith, tally-few s c.loop-v.v c.loop-v.tally c.loop-v.invariant r (omega (arith, c.loop-v.invariant.long)), c.loop-v.auto.v-end, c.nodes-v-end.ensures, (g.M.SiteMap.limits c.args.map.now).few);
+      tally_len = c.loop-v.invariant.long;
+    }
 
 pub returns : goal.returns
 returns g c =
