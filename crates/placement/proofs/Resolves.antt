@@ -34,11 +34,6 @@ pub copies_length : (q : Block) → length (copies_of q) ≡ q.len
 copies_length q =
     length-map (take q.len q.nodes) (λ v. v.0) ∙ length-take-le q.len q.nodes (omega (arith, q.few, q.full))
 
-pub resolved-length : (s : Site) (bs : List Block) (seats : List Seats) (i : ℕ) → length bs ≤ 16 → i < length bs → Resolved s (lists_in (take i bs)) seats → length seats ≡ 17
-resolved-length s bs seats i few l r =
-    let k : length (map (seated s) (lists_in (take i bs))) ≡ i = length-map (lists_in (take i bs)) (seated s) ∙ length-map (take i bs) copies_of ∙ length-take-le i bs (omega arith) in
-    sym (length-map seats seats_of) ∙ ap length r ∙ length-filled [] 17 (map (seated s) (lists_in (take i bs))) (omega arith)
-
 -- one list more
 pub resolved-push : (s : Site) (bs : List Copies) (seats : List Seats) (b : Copies) (q : Seats) (i : ℕ) → Resolved s bs seats → length bs ≡ i → i < 17
     → seats_of q ≡ seated s b → Resolved s (bs ++ b ∷ []) (set seats i q)

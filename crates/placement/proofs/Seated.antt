@@ -1,20 +1,18 @@
 -- The search's steps at the seats, for any racks and uses that they tell of.
-use Rattle.std.proofs.Common.{◌≡◌, ℕ, ◌+◌, ◌%◌, ◌^◌, ◌<◌, ◌≤◌, Bool, true, false, ◌&&◌, eqb, ◌⊎◌, List, length, get_or, set, Some, None, sym, refl, ap, ◌∙◌, subst, inl, inr, mod-eq_of_lt, add-one, arith}
+use Rattle.std.proofs.Common.{◌≡◌, ℕ, ◌+◌, ◌^◌, ◌<◌, ◌≤◌, Bool, true, false, ◌&&◌, eqb, ◌⊎◌, List, length, get_or, set, sym, refl, ap, ◌∙◌, subst, inl, inr, add-one, arith}
 use lib.Bits.{bit_or}
-use Rattle.std.proofs.lemmas.Nat.{mod_below}
 use Rattle.std.proofs.lemmas.List.{get_or-set_same, get_or-set_other, set-set, set-get_or}
-use Rattle.std.proofs.lemmas.Bool.{cases_eq, cases_Bool, eqb-true, eqb-false, eq-eqb, ne_eqb, and_from, and_parts, not-true, not_from_false, both_ways}
+use Rattle.std.proofs.lemmas.Bool.{cases_eq, eqb-true, eqb-false, eq-eqb}
 use Rattle.site.specs.Words.{member}
 use Rattle.choices.specs.Sums.{count_to}
 use Rattle.choices.specs.Search.{but, Free, Moved, Open, Shut, Way, in_rack, Sized, Complete, Grown, Failed, Blocked, Trying, Passing}
-use Rattle.choices.proofs.Finite.{count_same, count-front}
+use Rattle.choices.proofs.Finite.{count_same}
 use Rattle.choices.proofs.Moves.{partial-next, complete-front}
 use Rattle.choices.proofs.Sets.{uncrowded}
 use Rattle.choices.proofs.Steps as steps
-use Rattle.choices.proofs.Words.{member-one}
 use Rattle.placement.specs.declared.seat.Seat.{Seat}
 use Rattle.placement.specs.declared.seat.Seats.{Seats}
-use Rattle.placement.specs.Seats.{node_at, rack_at, Worded, Unheld, Blockers, Tells, Own, Sits, Grounded, Settled, Placing, Crowding, Refusing}
+use Rattle.placement.specs.Seats.{node_at, rack_at, load_of, Closed, gives, Tells, Own, Sits, Grounded, Settled, Placing, Crowding, Refusing}
 
 abbrev none : Seat
 none = record { node = record { 0 = 0 }; rack = record { 0 = 0 } }
@@ -26,166 +24,102 @@ moved-seat at x v l = record {
   there = λ k ne. ap (λ q. q.node.0) (get_or-set_other at x k v none ne);
 }
 
--- what is written over and put back
-pub restored : {A : Type 0} (xs xs₁ xs₂ : List A) (i : ℕ) (a d : A) → xs₁ ≡ xs → xs₂ ≡ set xs₁ i a → set xs₂ i (get_or xs i d) ≡ xs
-restored xs xs₁ xs₂ i a d e f =
-    ap (λ b. set b i (get_or xs i d)) (f ∙ ap (λ b. set b i a) e) ∙ set-set xs i a (get_or xs i d) ∙ set-get_or xs i d
+-- and back
+pub restored : (at at₁ at₂ : List Seat) (x : ℕ) (v : Seat) → at₁ ≡ at → at₂ ≡ set at₁ x v → set at₂ x (get_or at x none) ≡ at
+restored at at₁ at₂ x v e f =
+    ap (λ b. set b x (get_or at x none)) (f ∙ ap (λ b. set b x v) e) ∙ set-set at x v (get_or at x none) ∙ set-get_or at x none
 
-pub tells-set : (rack : ℕ → ℕ) (n : ℕ) (at : List Seat) (x : ℕ) → Tells rack n at x → (v : Seat) → x < length at → rack v.node.0 ≡ v.rack.0
-    → (k : ℕ) → k < n → rack (node_at (set at x v) k) ≡ rack_at (set at x v) k
-tells-set rack n at x tells v l e k h =
-    elim (cases_eq k x) [
-      | inl q ↦ subst (λ j. rack (node_at (set at x v) j) ≡ rack_at (set at x v) j) (sym q)
-          (subst (λ z. rack z.node.0 ≡ z.rack.0) (sym (get_or-set_same at x v none l)) e)
-      | inr q ↦ subst (λ z. rack z.node.0 ≡ z.rack.0) (sym (get_or-set_other at x k v none q)) (tells k h q)
-    ]
+module _ (rack : ℕ → ℕ) (n : ℕ) (at : List Seat) (x : ℕ) (tells : Tells rack n at x) where
+  pub tells-set : (v : Seat) → x < length at → rack v.node.0 ≡ v.rack.0 → (k : ℕ) → k < n → rack (node_at (set at x v) k) ≡ rack_at (set at x v) k
+  tells-set v l e k h =
+      elim (cases_eq k x) [
+        | inl q ↦ subst (λ j. rack (node_at (set at x v) j) ≡ rack_at (set at x v) j) (sym q)
+            (subst (λ z. rack z.node.0 ≡ z.rack.0) (sym (get_or-set_same at x v none l)) e)
+        | inr q ↦ subst (λ z. rack z.node.0 ≡ z.rack.0) (sym (get_or-set_other at x k v none q)) (tells k h q)
+      ]
 
--- two tests that pass together
-same_test : (s t : Bool) → (s ≡ true → t ≡ true) → (t ≡ true → s ≡ true) → s ≡ t
-same_test true t f h = sym (f refl)
-same_test false true f h = h refl
-same_test false false f h = refl
+  pub load_told : (r : ℕ) → load_of n at x r ≡ in_rack n rack (node_at at) x r
+  load_told r =
+      count_same n (λ k. but x k && eqb (rack_at at k) r) (λ k. but x k && eqb (rack (node_at at k)) r)
+      (λ k l. elim (cases_eq k x) [
+        | inl e ↦ let t : eqb k x ≡ true = eq-eqb k x e in rw t refl
+        | inr e ↦ ap (λ z. but x k && eqb z r) (sym (tells k l e))
+      ])
 
--- what the blocks in the rack of a seat v of x tell of it: u is the word of these blocks
-module _ (rack : ℕ → ℕ) (U : ℕ → ℕ → Bool) (N n c : ℕ) (seats : List Seats) (at : List Seat) (x w₀ : ℕ) (g : Grounded rack U N n c seats at x w₀)
-    (v : Seat) (own : Own rack U x v) (racks : List ℕ) (words : Worded n at x racks) (u : ℕ) (is : u ≡ get_or racks (v.rack.0 % 32) 0) where
-  but-x : (k : ℕ) → (k ≡ x → ⊥) → but x k ≡ true
-  but-x k ne = not_from_false _ (ne_eqb k x ne)
+  module _ (c : ℕ) (v : Seat) (own : rack v.node.0 ≡ v.rack.0) where
+    pub open_told : Free n (node_at at) x v.node.0 × (load_of n at x v.rack.0 < c) → Open n c rack (node_at at) x v.node.0
+    open_told h = (h.0, rw own (omega (arith, h.1, load_told v.rack.0)))
 
-  low : (k : ℕ) → k < n → (k ≡ x → ⊥) → rack_at at k % 32 ≡ rack (node_at at k)
-  low k l ne =
-      ap (λ z. z % 32) (sym (g.tells k l ne))
-      ∙ mod-eq_of_lt (g.ready.sized.racked k (node_at at k) (g.ready.partial.placed.usable k l (but-x k ne)))
+    pub shut-told : (taken : Bool) → Closed n c at x v taken → Shut n c rack (node_at at) x v.node.0
+    shut-told true h = inl h
+    shut-told false h = inr (h.0, rw own (omega (arith, h.1, load_told v.rack.0)))
 
-  low-seat : v.rack.0 % 32 ≡ rack v.node.0
-  low-seat = ap (λ z. z % 32) (sym own.1) ∙ mod-eq_of_lt (g.ready.sized.racked x v.node.0 own.0)
+    pub way-told : (taken : Bool) → Closed n c at x v taken → (y : ℕ) → y < n → (y ≡ x → ⊥) → gives at taken y v ≡ true
+        → Way n rack (node_at at) x y v.node.0
+    way-told true h y l ne t = inl (eqb-true _ _ t)
+    way-told false h y l ne t = inr (h.0, tells y l ne ∙ eqb-true _ _ t ∙ sym own)
 
-  there : (k : ℕ) → k < n → (k ≡ x → ⊥) → rack (node_at at k) ≡ rack v.node.0 → member u k ≡ true
-  there k l ne e =
-      subst (λ z. member z k ≡ true) (sym (is ∙ ap (λ z. get_or racks z 0) (low-seat ∙ sym e ∙ sym (low k l ne)))) (words.all k l ne)
-
-  only : (k : ℕ) → member u k ≡ true → (k < n) × (k ≡ x → ⊥) × (rack (node_at at k) ≡ rack v.node.0)
-  only k m =
-      let o = words.only (v.rack.0 % 32) k (mod_below v.rack.0 32 (omega arith)) (subst (λ z. member z k ≡ true) is m) in
-      (o.0, o.1, sym (low k o.0 o.1) ∙ o.2 ∙ low-seat)
-
-  free : Unheld at u v.node.0 → Free n (node_at at) x v.node.0
-  free h k l ne e = h k (there k l ne (ap rack e)) e
-
-  load : n ≤ 17 → count_to 32 (member u) ≡ in_rack n rack (node_at at) x (rack v.node.0)
-  load few =
-      count-front n 32 (member u) (omega arith) (λ k l. elim (cases_Bool (member u k)) [ inl t ↦ absurd (omega (arith, (only k t).0)) | inr f ↦ f ])
-      ∙ count_same n (member u) (λ k. but x k && eqb (rack (node_at at k)) (rack v.node.0))
-      (λ k l. same_test _ _
-      (λ m. let o = only k m in and_from _ _ (but-x k o.1) (eq-eqb _ _ o.2))
-      (λ t. let p = and_parts (but x k) _ t in there k l (eqb-false k x (not-true _ p.0)) (eqb-true _ _ p.1)))
-
-  pub open_told : n ≤ 17 → Blockers c at u v.node.0 None → Open n c rack (node_at at) x v.node.0
-  open_told few h = (free h.0, omega (arith, h.1, load few))
-
-  module _ (b : ℕ) (h : Blockers c at u v.node.0 (Some b)) where
-    pub shut-told : n ≤ 17 → Shut n c rack (node_at at) x v.node.0
-    shut-told few =
-        elim h [
-          | inl p ↦ let o = only p.0 p.1 in inl (p.0, o.0, o.1, p.2)
-          | inr p ↦ inr (free p.0, omega (arith, p.1, load few))
-        ]
-
-    pub way-told : (y : ℕ) → member b y ≡ true → Way n rack (node_at at) x y v.node.0
-    way-told y m =
-        elim h [
-          | inl p ↦
-              let e : y ≡ p.0 = eqb-true y p.0 (sym (ap (λ z. member z y) p.3 ∙ member-one p.0 y) ∙ m) in
-              inl (ap (node_at at) e ∙ p.2)
-          | inr p ↦ inr (free p.0, (only y (subst (λ z. member z y ≡ true) p.2 m)).2)
-        ]
-
-    pub way-not : (y : ℕ) → y < n → (y ≡ x → ⊥) → member b y ≡ false → Way n rack (node_at at) x y v.node.0 → ⊥
-    way-not y l ne m way =
-        elim h [
-          | inl p ↦
-              let o = only p.0 p.1 in
-              elim way [
-                | inl e ↦
-                    let q : y ≡ p.0 = g.ready.partial.placed.distinct y p.0 l o.0 (but-x y ne) (but-x p.0 o.1) (e ∙ sym p.2) in
-                    both_ways _ m (ap (λ z. member z y) p.3 ∙ member-one p.0 y ∙ eq-eqb y p.0 q)
-                | inr e ↦ e.0 p.0 o.0 o.1 p.2
-              ]
-          | inr p ↦
-              elim way [
-                | inl e ↦ free p.0 y l ne e
-                | inr e ↦ both_ways _ m (subst (λ z. member z y ≡ true) (sym p.2) (there y l ne e.1))
-              ]
-        ]
-
--- a blocker is in the rack
-pub blocker-there : (c : ℕ) (at : List Seat) (u v b : ℕ) → Blockers c at u v (Some b) → (y : ℕ) → member b y ≡ true → member u y ≡ true
-blocker-there c at u v b (inl p) y m =
-    let e : y ≡ p.0 = eqb-true y p.0 (sym (ap (λ z. member z y) p.3 ∙ member-one p.0 y) ∙ m) in
-    ap (member u) e ∙ p.1
-blocker-there c at u v b (inr p) y m = subst (λ z. member z y ≡ true) p.2 m
+    pub way-not : (taken : Bool) → Closed n c at x v taken → (y : ℕ) → y < n → (y ≡ x → ⊥) → gives at taken y v ≡ false
+        → Way n rack (node_at at) x y v.node.0 → ⊥
+    way-not true h y l ne t (inl e) = eqb-false _ _ t e
+    way-not true h y l ne t (inr e) = e.0 h.0 h.1 h.2 h.3
+    way-not false h y l ne t (inl e) = h.0 y l ne e
+    way-not false h y l ne t (inr e) = eqb-false _ _ t (sym (tells y l ne) ∙ e.1 ∙ own)
 
 module _ (rack : ℕ → ℕ) (U : ℕ → ℕ → Bool) (N n c : ℕ) (seats : List Seats) (at : List Seat) (x w₀ : ℕ) (g : Grounded rack U N n c seats at x w₀)
     (at₁ : List Seat) (e : at₁ ≡ at) where
-  here : Grounded rack U N n c seats at₁ x w₀
-  here = subst (λ b. Grounded rack U N n c seats b x w₀) (sym e) g
+  again : Tells rack n at₁ x
+  again = subst (λ b. Tells rack n b x) (sym e) g.tells
 
-  module _ (v : Seat) (own : Own rack U x v) (long : x < length at₁) (few : n ≤ 17) (racks : List ℕ) (words : Worded n at₁ x racks) (u : ℕ)
-      (is : u ≡ get_or racks (v.rack.0 % 32) 0) where
-    pub opened : Blockers c at₁ u v.node.0 None → Settled rack U n c (set at₁ x v)
+  module _ (v : Seat) (own : Own rack U x v) (long : x < length at₁) where
+    pub opened : Free n (node_at at₁) x v.node.0 × (load_of n at₁ x v.rack.0 < c) → Settled rack U n c (set at₁ x v)
     opened h = record {
       complete = steps.opened n N 32 c rack U (node_at at) x v.node.0 w₀ g.ready own.0 (node_at at₁) (node_at (set at₁ x v)) (ap node_at e)
-          (moved-seat at₁ x v long) (open_told rack U N n c seats at₁ x w₀ here v own racks words u is few h);
-      tells = tells-set rack n at₁ x here.tells v long own.1;
+          (moved-seat at₁ x v long) (open_told rack n at₁ x again c v own.1 h);
+      tells = tells-set rack n at₁ x again v long own.1;
     }
 
-    module _ (b : ℕ) (h : Blockers c at₁ u v.node.0 (Some b)) where
-      module _ (y : ℕ) (m : member b y ≡ true) where
-        of-y : (y < n) × (y ≡ x → ⊥) × (rack_at at₁ y % 32 ≡ v.rack.0 % 32)
-        of-y = words.only (v.rack.0 % 32) y (mod_below v.rack.0 32 (omega arith))
-            (subst (λ z. member z y ≡ true) is (blocker-there c at₁ u v.node.0 b h y m))
+    module _ (taken : Bool) (closed : Closed n c at₁ x v taken) (y : ℕ) (l : y < n) where
+      -- the call for the block y that gives way
+      pub next : (ne : y ≡ x → ⊥) → gives at₁ taken y v ≡ true → (w m : ℕ) → m ≡ bit_or w (2 ^ y) → Grounded rack U N n c seats (set at₁ x v) y m
+      next ne t w m q = record {
+        sits = g.sits;
+        tells = λ k h _. tells-set rack n at₁ x again v long own.1 k h;
+        ready = steps.ready-next n N 32 c rack U (node_at at) x v.node.0 w₀ g.ready own.0 (node_at at₁) (node_at (set at₁ x v)) (ap node_at e)
+            (moved-seat at₁ x v long) w y m l ne (way-told rack n at₁ x again c v own.1 taken closed y l ne t) q;
+      }
 
-        way : Way n rack (node_at at₁) x y v.node.0
-        way = way-told rack U N n c seats at₁ x w₀ here v own racks words u is b h y m
+      pub retried : (w m w' : ℕ) → Trying n N 32 c rack U (node_at at) x v.node.0 w₀ w y → (y ≡ x → ⊥) → member w y ≡ false
+          → gives at₁ taken y v ≡ true → m ≡ bit_or w (2 ^ y) → Failed n N 32 c rack U (node_at (set at₁ x v)) y m w'
+          → Trying n N 32 c rack U (node_at at) x v.node.0 w₀ w' (y + 1)
+      retried w m w' t ne no' way q f =
+          steps.retried n N 32 c rack U (node_at at) x v.node.0 w₀ g.ready own.0 (node_at at₁) (node_at (set at₁ x v)) (ap node_at e)
+          (moved-seat at₁ x v long) w y m w' t l ne no' (way-told rack n at₁ x again c v own.1 taken closed y l ne way) q f
 
-        -- the call for the block y that gives way
-        pub next : (w s : ℕ) → s ≡ bit_or w (2 ^ y) → Grounded rack U N n c seats (set at₁ x v) y s
-        next w s q = record {
-          sits = g.sits;
-          tells = λ k l _. tells-set rack n at₁ x here.tells v long own.1 k l;
-          ready = steps.ready-next n N 32 c rack U (node_at at) x v.node.0 w₀ g.ready own.0 (node_at at₁) (node_at (set at₁ x v)) (ap node_at e)
-              (moved-seat at₁ x v long) w y s of-y.0 of-y.1 way q;
-        }
-
-        pub retried : (w s w' : ℕ) → Trying n N 32 c rack U (node_at at) x v.node.0 w₀ w y → member w y ≡ false
-            → s ≡ bit_or w (2 ^ y) → Failed n N 32 c rack U (node_at (set at₁ x v)) y s w'
-            → Trying n N 32 c rack U (node_at at) x v.node.0 w₀ w' (y + 1)
-        retried w s w' t no' q f =
-            steps.retried n N 32 c rack U (node_at at) x v.node.0 w₀ g.ready own.0 (node_at at₁) (node_at (set at₁ x v)) (ap node_at e)
-            (moved-seat at₁ x v long) w y s w' t of-y.0 of-y.1 no' way q f
-
-      -- the blocks from y on and below y' are no blockers, or were taken out before
-      pub skipped : (w y y' : ℕ) → Trying n N 32 c rack U (node_at at) x v.node.0 w₀ w y → y' ≤ n
-          → ((k : ℕ) → y ≤ k → k < y' → (member w k ≡ true) ⊎ (member b k ≡ false)) → Trying n N 32 c rack U (node_at at) x v.node.0 w₀ w y'
-      skipped w y y' t all why =
-          steps.trying-on n N 32 c rack U (node_at at) x v.node.0 w₀ w y y' t
-          (λ k l j. elim (cases_eq k x) [
+      pub skipped : (w : ℕ) → Trying n N 32 c rack U (node_at at) x v.node.0 w₀ w y
+          → (y ≡ x) ⊎ ((member w y ≡ true) ⊎ (gives at₁ taken y v ≡ false)) → Trying n N 32 c rack U (node_at at) x v.node.0 w₀ w (y + 1)
+      skipped w t why =
+          steps.skipped n N 32 c rack U (node_at at) x v.node.0 w₀ (node_at at₁) (ap node_at e) w y t
+          (elim (cases_eq y x) [
             | inl q ↦ inl q
-            | inr q ↦ elim (why k l j) [
-              | inl z ↦ inr (inl z)
-              | inr z ↦ inr (inr (subst (λ a. Way n rack a x k v.node.0 → ⊥) (ap node_at e)
-                  (way-not rack U N n c seats at₁ x w₀ here v own racks words u is b h k (omega (arith, j, all)) q z)))
+            | inr q ↦ elim why [
+              | inl z ↦ inl z
+              | inr z ↦ elim z [
+                | inl m ↦ inr (inl m)
+                | inr no' ↦ inr (inr (way-not rack n at₁ x again c v own.1 taken closed y l q no'))
+              ]
             ]
           ])
 
-      pub tried : (w : ℕ) → Trying n N 32 c rack U (node_at at) x v.node.0 w₀ w n → Blocked n N 32 c rack U (node_at at) x v.node.0 w₀ w
-      tried w t =
-          steps.trying-all n N 32 c rack U (node_at at) x v.node.0 w₀ w n t (omega arith)
-          (subst (λ a. Shut n c rack a x v.node.0) (ap node_at e) (shut-told rack U N n c seats at₁ x w₀ here v own racks words u is b h few))
+    pub tried : (taken : Bool) → Closed n c at₁ x v taken → (w y : ℕ) → Trying n N 32 c rack U (node_at at) x v.node.0 w₀ w y → n ≤ y
+        → Blocked n N 32 c rack U (node_at at) x v.node.0 w₀ w
+    tried taken closed w y t all =
+        steps.trying-all n N 32 c rack U (node_at at) x v.node.0 w₀ w y t all
+        (subst (λ b. Shut n c rack b x v.node.0) (ap node_at e) (shut-told rack n at₁ x again c v own.1 taken closed))
 
   -- the call for one seat of x
   pub same : (w : ℕ) → Grown n N 32 c rack U w₀ w → Grounded rack U N n c seats at₁ x w
-  same w h = record { sits = g.sits; tells = here.tells; ready = steps.ready-same n N 32 c rack U (node_at at) x w₀ w g.ready (node_at at₁) (ap node_at e) h }
+  same w h = record { sits = g.sits; tells = again; ready = steps.ready-same n N 32 c rack U (node_at at) x w₀ w g.ready (node_at at₁) (ap node_at e) h }
 
 module _ (rack : ℕ → ℕ) (U : ℕ → ℕ → Bool) (N n c : ℕ) (seats : List Seats) (at : List Seat) (x w₀ : ℕ) (g : Grounded rack U N n c seats at x w₀)
     (q : Seats) (l : x < n) (is : q ≡ get_or seats x q) where
@@ -209,10 +143,6 @@ module _ (rack : ℕ → ℕ) (U : ℕ → ℕ → Bool) (N n c : ℕ) (seats : 
     crowded = steps.found-crowded n N 32 c rack U (node_at at) x m w first.ready e f;
     least = steps.found-least n N 32 c rack U (node_at at) x m w first.ready e f;
   }
-
-pub placing-same : (rack : ℕ → ℕ) (U : ℕ → ℕ → Bool) (N n c : ℕ) (seats : List Seats) (at at₁ : List Seat) (x : ℕ) → at₁ ≡ at
-    → Placing rack U N n c seats at x → Placing rack U N n c seats at₁ x
-placing-same rack U N n c seats at at₁ x e p = subst (λ a. Placing rack U N n c seats a x) (sym e) p
 
 -- one block more
 module _ (rack : ℕ → ℕ) (U : ℕ → ℕ → Bool) (N n c : ℕ) (seats : List Seats) (sized : Sized N 32 rack U) (sits : Sits rack U n seats) where

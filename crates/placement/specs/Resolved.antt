@@ -1,5 +1,5 @@
 -- Lists of copies as seats.
-use Rattle.std.specs.Prelude.{◌≡◌, ℕ, ◌≤◌, true, List, [], ◌∷◌, ◌++◌, map, length, Some, None, filter, Option, slice_index_or}
+use Rattle.std.specs.Prelude.{◌≡◌, ℕ, ◌≤◌, true, List, [], ◌∷◌, ◌++◌, map, length, filter, slice_index_or}
 use Rattle.site.specs.Fills.{filled}
 use Rattle.site.specs.Site.{Site, keeps, node_rack}
 use Rattle.choices.specs.Choice.{Copies, has}
@@ -20,11 +20,6 @@ seat_at s v = record { node = record { 0 = v }; rack = record { 0 = node_rack s 
 -- the yes nodes of a list, in list order, with their racks
 abbrev pub seated : Site → Copies → List Seat
 seated s b = map (seat_at s) (filter (keeps s) b)
-
--- one seat, or none
-abbrev pub one_of : Option Seat → List Seat
-one_of None = []
-one_of (Some q) = q ∷ []
 
 -- of each list of bs its seats, in room for 17
 abbrev pub Resolved : Site → List Copies → List Seats → Type 0

@@ -1,9 +1,8 @@
--- Seats, and what they tell of a site: racks by node, and which block can use which node. Where the blocks sit is a seat for each, and
--- for each rack a word of the blocks that sit there.
-use Rattle.std.specs.Prelude.{◌≡◌, ℕ, ◌+◌, ◌%◌, ◌^◌, ◌<◌, ◌≤◌, Bool, true, ◌⊎◌, List, get_or, take, set, Some, None, Option, ◌≢◌, bit_or, slice_index, slice_index_or, slice_set}
-use Rattle.site.specs.Words.{member}
+-- Seats, and what they tell of a site: racks by node, and which block can use which node.
+use Rattle.std.specs.Prelude.{◌≡◌, ℕ, ◌+◌, ◌^◌, ◌<◌, ◌≤◌, Bool, true, cond, ◌&&◌, List, get_or, take, MatchBool, ◌==◌, ◌≢◌, slice_index_or}
 use Rattle.choices.specs.Sums.{count_to}
-use Rattle.choices.specs.Search.{Sized, Partial, Ready, Complete, Crowded, Subset, Failed, Blocked}
+use Rattle.site.specs.Words.{member}
+use Rattle.choices.specs.Search.{but, Free, Held, Sized, Partial, Ready, Complete, Crowded, Subset, Failed, Blocked}
 use Rattle.placement.specs.declared.seat.Seat.{Seat}
 use Rattle.placement.specs.declared.seat.Seats.{Seats}
 
@@ -17,33 +16,21 @@ node_at at k = (get_or at k (record { node = record { 0 = 0 }; rack = record { 0
 abbrev pub rack_at : List Seat → ℕ → ℕ
 rack_at at k = (get_or at k (record { node = record { 0 = 0 }; rack = record { 0 = 0 } })).rack.0
 
--- the words tell of each rack which of the first n blocks but x sit there; a rack's word has the place that its number has below 32
-pub record Worded (n : ℕ) (at : List Seat) (x : ℕ) (racks : List ℕ) : Type 0 where
-  pub only : (r k : ℕ) → r < 32 → member (slice_index racks r) k ≡ true → (k < n) × (k ≢ x) × (rack_at at k % 32 ≡ r)
-  pub all : (k : ℕ) → k < n → (k ≢ x) → member (slice_index racks (rack_at at k % 32)) k ≡ true
+-- how many blocks but x sit in rack r
+abbrev pub load_of : ℕ → List Seat → ℕ → ℕ → ℕ
+load_of n at x r = count_to n (λ k. but x k && rack_at at k == r)
 
--- no block of the set holds the node v
-abbrev pub Unheld : List Seat → ℕ → ℕ → Type 0
-Unheld at w v = (k : ℕ) → member w k ≡ true → node_at at k ≢ v
+-- whether another block than x holds the node v
+abbrev pub Taken : ℕ → List Seat → ℕ → ℕ → Bool → Type 0
+Taken n at x v taken = MatchBool taken (Held n (node_at at) x v) (Free n (node_at at) x v)
 
--- the block of the set that holds the node v, if one does
-abbrev pub Holder : List Seat → ℕ → ℕ → Option ℕ → Type 0
-Holder at w v None = Unheld at w v
-Holder at w v (Some y) = (y < 32) × (member w y ≡ true) × (node_at at y ≡ v)
+-- the seat v is not open to x: another block holds it, or its rack has c others
+abbrev pub Closed : ℕ → ℕ → List Seat → ℕ → Seat → Bool → Type 0
+Closed n c at x v taken = MatchBool taken (Held n (node_at at) x v.node.0) (Free n (node_at at) x v.node.0 × (c ≤ load_of n at x v.rack.0))
 
--- which blocks of the set, those in the rack of the node v, keep it from a block that is out: none, the one that holds it,
--- or all where they are c
-abbrev pub Blockers : ℕ → List Seat → ℕ → ℕ → Option ℕ → Type 0
-Blockers c at w v None = Unheld at w v × (count_to 32 (member w) < c)
-Blockers c at w v (Some b) =
-    ((y : ℕ) × (member w y ≡ true) × (node_at at y ≡ v) × (b ≡ bit_or 0 (2 ^ y))) ⊎ (Unheld at w v × (c ≤ count_to 32 (member w)) × (b ≡ w))
-
--- block x sits down at one of these seats that is open: no other block has to give way, and the rack's word then has x
-abbrev pub Took : ℕ → Seats → List Seat → List ℕ → ℕ → List Seat → List ℕ → Type 0
-Took c q at racks x at' racks' =
-    (i : ℕ) × (i < q.len) × Blockers c at (slice_index racks (rack_at q.at i % 32)) (node_at q.at i) None
-    × (at' ≡ slice_set at x (slice_index_or q.at i (record { node = record { 0 = 0 }; rack = record { 0 = 0 } })))
-    × (racks' ≡ slice_set racks (rack_at q.at i % 32) (bit_or (slice_index racks (rack_at q.at i % 32)) (2 ^ x)))
+-- whether the seat v is open once block y has given up its own
+abbrev pub gives : List Seat → Bool → ℕ → Seat → Bool
+gives at taken y v = cond taken (node_at at y == v.node.0) (rack_at at y == v.rack.0)
 
 -- the seats of the first n blocks are the nodes that U says, in the racks that `rack` says
 pub record Sits (rack : ℕ → ℕ) (U : ℕ → ℕ → Bool) (n : ℕ) (seats : List Seats) : Type 0 where

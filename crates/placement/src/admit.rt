@@ -8,10 +8,10 @@ ghost use Rattle.placement.specs.Resolved.{CrowdedOut};
 
 use crate::resolve::{resolve, resolve_all};
 use crate::search::seat_all;
-use crate::seat::Sitting;
+use crate::seat::Seat;
 use blocks::block::Block;
 use blocks::lists::Blocks;
-use site::SiteMap;
+use site::{Node, Rack, SiteMap};
 
 /// Whether a stripe's blocks and an offered one have a choice. If not, and the stripe's blocks have one, the least tight set:
 /// bit p − 1 for the block at position p, the offered one past the last.
@@ -25,9 +25,12 @@ pub fn admit<M: SiteMap>(map: &M, c: u32, blocks: &Blocks, offered: &Block) -> R
 {
     let mut seats = resolve_all(map, blocks.as_slice());
     let n = blocks.len();
-    resolve(map, offered, &mut seats[n]);
-    let mut sat = Sitting::new();
-    seat_all(&seats, n + 1, c, &mut sat)
+    seats[n] = resolve(map, offered);
+    let mut at = [Seat {
+        node: Node(0),
+        rack: Rack(0),
+    }; 17];
+    seat_all(&seats, n + 1, c, &mut at)
 }
 
 /// How many blocks a set of them has.

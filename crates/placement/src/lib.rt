@@ -10,4 +10,3 @@ mod search;
 mod seat;
 #[cfg(test)]
 mod tests;
-mod words;

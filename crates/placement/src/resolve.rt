@@ -1,8 +1,8 @@
 // Blocks' lists resolved against a map: the only step that asks it, once for each listed node.
-ghost use Rattle.std.specs.Prelude.{◌≡◌, ◌+◌, ◌<◌, ◌≤◌, [], ◌∷◌, length};
+ghost use Rattle.std.specs.Prelude.{◌≡◌, ◌+◌, ◌<◌, ◌≤◌, [], ◌∷◌, ◌++◌, length};
 ghost use Rattle.blocks.specs.Blocks.{copies_of};
 ghost use Rattle.placement.specs.Seats.{seats_of};
-ghost use Rattle.placement.specs.Resolved.{one_of, seated, lists_in, Resolved};
+ghost use Rattle.placement.specs.Resolved.{seated, lists_in, Resolved};
 
 use crate::seat::{Seat, Seats};
 use blocks::block::Block;
@@ -27,34 +27,41 @@ impl Seats {
     {
         Seats { at: [v; 8], len: 1 }
     }
+
+    fn push(&mut self, v: Seat)
+        requires { self.old.len < 8 }
+        ensures { (seats_of self.new ≡ seats_of self.old ++ v ∷ []) × (self.new.len ≡ self.old.len + 1) }
+    {
+        self.at[self.len] = v;
+        self.len += 1;
+    }
 }
 
-// The seat of a node that is on the map and marked yes.
-fn seat_of<M: SiteMap>(map: &M, v: Node) -> Option<Seat>
-    ensures { seated (M.SiteMap.meaning map.now) (v.0 ∷ []) ≡ one_of result }
+// One more listed node.
+fn ask<M: SiteMap>(map: &M, seats: &mut Seats, v: Node)
+    requires { seats.old.len < 8 }
+    ensures same { seats_of seats.new ≡ seats_of seats.old ++ seated (M.SiteMap.meaning map.now) (v.0 ∷ []) }
+    ensures few { seats.new.len ≤ seats.old.len + 1 }
 {
     match map.node(v) {
         Some((rack, mark)) => match mark {
-            Mark::Yes => Some(Seat { node: v, rack }),
-            Mark::No => None,
+            Mark::Yes => seats.push(Seat { node: v, rack }),
+            Mark::No => {}
         },
-        None => None,
+        None => {}
     }
 }
 
-/// Makes the seats a block's yes nodes in list order, with their racks.
-pub(crate) fn resolve<M: SiteMap>(map: &M, block: &Block, seats: &mut Seats)
-    ensures { seats_of seats.new ≡ seated (M.SiteMap.meaning map.now) (copies_of block.now) }
+/// A block's yes nodes in list order, with their racks.
+pub(crate) fn resolve<M: SiteMap>(map: &M, block: &Block) -> Seats
+    ensures { seats_of result ≡ seated (M.SiteMap.meaning map.now) (copies_of block.now) }
 {
+    let mut seats = Seats::new();
     let nodes = block.nodes();
-    let mut len = 0;
     for i in 0..nodes.len() {
-        if let Some(seat) = seat_of(map, nodes[i]) {
-            seats.at[len] = seat;
-            len += 1;
-        }
+        ask(map, &mut seats, nodes[i]);
     }
-    seats.len = len;
+    seats
 }
 
 /// The seats of up to 16 blocks, with room for one more.
@@ -64,7 +71,7 @@ pub(crate) fn resolve_all<M: SiteMap>(map: &M, blocks: &[Block]) -> [Seats; 17]
 {
     let mut all = [Seats::new(); 17];
     for i in 0..blocks.len() {
-        resolve(map, &blocks[i], &mut all[i]);
+        all[i] = resolve(map, &blocks[i]);
     }
     all
 }

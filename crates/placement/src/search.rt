@@ -1,201 +1,141 @@
 // The search for a seat of one more block. Depth first: where no seat is open, another block gives way and is placed anew;
 // each block is taken out at most once. Where all fails, the blocks taken out are the least tight set.
-ghost use Rattle.std.specs.Prelude.{◌≡◌, ℕ, ◌+◌, ◌%◌, ◌^◌, ◌<◌, ◌≤◌, Bool, true, length, set, Some, None, MatchBool, MatchResult, OnOk, bit_or, slice_index, slice_set};
+ghost use Rattle.std.specs.Prelude.{◌≡◌, ℕ, ◌+◌, ◌^◌, ◌<◌, ◌≤◌, Bool, true, false, ◌&&◌, ◌⊎◌, length, set, MatchBool, MatchResult, ◌==◌, ◌≢◌, bit_or};
 ghost use Rattle.site.specs.Words.{member};
-ghost use Rattle.choices.specs.Search.{Sized, unseen};
-ghost use Rattle.placement.specs.Seats.{Worded, Holder, Blockers, Took, Sits, Settled, Seated, Unseated, Freed, Barred, Placing, Crowding, Refusing};
+ghost use Rattle.choices.specs.Search.{but, Free, Sized, unseen};
+ghost use Rattle.placement.specs.Seats.{node_at, rack_at, load_of, Taken, Closed, gives, Sits, Settled, Seated, Unseated, Freed, Barred, Placing, Crowding, Refusing};
 
-use crate::seat::{Seat, Seats, Sitting};
-use crate::words::{lowest, mark, marked, turn};
+use crate::seat::{Seat, Seats};
 use site::{Node, Rack};
 
-// The place of a rack's word. Racks are below 32.
-pub(crate) fn slot(rack: Rack) -> usize
-    ensures { (result ≡ rack.0 % 32) × (result < 32) }
+// Whether a block other than x holds the node v.
+fn held(at: &[Seat], n: usize, x: usize, v: Node) -> bool
+    requires { n ≤ length at.now }
+    ensures { Taken n at.now x v.0 result }
 {
-    (rack.0 % 32) as usize
-}
-
-impl Sitting {
-    /// Nobody sits.
-    pub(crate) fn new() -> Sitting
-        ensures { (x : ℕ) → Worded 0 result.at x result.racks }
-    {
-        Sitting {
-            at: [Seat {
-                node: Node(0),
-                rack: Rack(0),
-            }; 17],
-            racks: [0; 32],
-        }
-    }
-
-    /// Block x has the seat v, and the word at place r is another.
-    fn put(&mut self, x: usize, v: Seat, r: usize, word: u32)
-        requires { (x < 17) × (r < 32) }
-        ensures at { self.new.at ≡ slice_set self.old.at x v }
-        ensures racks { self.new.racks ≡ slice_set self.old.racks r word }
-    {
-        self.at[x] = v;
-        self.racks[r] = word;
-    }
-
-    /// Block x, who sits nowhere, has the seat v.
-    fn sit(&mut self, x: usize, v: Seat)
-        requires { x < 17 }
-        ensures at { self.new.at ≡ slice_set self.old.at x v }
-        ensures racks { self.new.racks ≡ slice_set self.old.racks (v.rack.0 % 32) (bit_or (slice_index self.old.racks (v.rack.0 % 32)) (2 ^ x)) }
-    {
-        let r = slot(v.rack);
-        let there = self.racks[r];
-        self.put(x, v, r, mark(there, x));
-    }
-
-    /// The word at place r is another.
-    pub(crate) fn reword(&mut self, r: usize, word: u32)
-        requires { r < 32 }
-        ensures at { self.new.at ≡ self.old.at }
-        ensures racks { self.new.racks ≡ slice_set self.old.racks r word }
-    {
-        self.racks[r] = word;
-    }
-}
-
-// The block of a set that holds the node v.
-fn holder(sat: &Sitting, there: u32, v: Node) -> Option<usize>
-    requires { (k : ℕ) → member there k ≡ true → k < 17 }
-    ensures { Holder sat.now.at there v.0 result }
-{
-    let mut left = there;
-    while left > 0 {
-        let y = lowest(left);
-        if sat.at[y].node.0 == v.0 {
-            return Some(y);
-        }
-        left = turn(left, y);
-    }
-    None
-}
-
-// The blocks of which one has to give way for a block that is out to have the node v; those in its rack are given.
-fn blockers(sat: &Sitting, there: u32, c: u32, v: Node) -> Option<u32>
-    requires { (k : ℕ) → member there k ≡ true → k < 17 }
-    ensures { Blockers c sat.now.at there v.0 result }
-{
-    if let Some(y) = holder(sat, there, v) {
-        return Some(mark(0, y));
-    }
-    if there.count_ones() < c {
-        return None;
-    }
-    Some(there)
-}
-
-// Whether the node v is open, which has these blocks in its rack. Most are told without a look at the blocks.
-fn open(sat: &Sitting, there: u32, c: u32, v: Node) -> bool
-    requires { (k : ℕ) → member there k ≡ true → k < 17 }
-    ensures { result ≡ true → Blockers c sat.now.at there v.0 None }
-{
-    if there == 0 {
-        return c > 0;
-    }
-    if there.count_ones() >= c {
-        return false;
-    }
-    match holder(sat, there, v) {
-        Some(_) => false,
-        None => true,
-    }
-}
-
-// Gives block x the first of its seats that is open, if one is.
-fn take_open(list: &Seats, c: u32, sat: &mut Sitting, x: usize) -> bool
-    requires { (((r k : ℕ) → r < 32 → member (slice_index sat.old.racks r) k ≡ true → k < 17)) × (x < 17) }
-    ensures { MatchBool result (Took c list.now sat.old.at sat.old.racks x sat.new.at sat.new.racks) ((sat.new.at ≡ sat.old.at) × (sat.new.racks ≡ sat.old.racks)) }
-{
-    for i in 0..list.len {
-        let v = list.at[i];
-        let there = sat.racks[slot(v.rack)];
-        if open(sat, there, c, v.node) {
-            sat.sit(x, v);
+    for y in 0..n {
+        if y != x && at[y].node.0 == v.0 {
             return true;
         }
     }
     false
 }
 
-// Gives block x, the only one with no seat, one of its own: one that is open, or else one for which others move.
-#[cycle(displace_make_room_place)]
-fn place(seats: &[Seats], n: usize, c: u32, sat: &mut Sitting, seen: &mut u32, x: usize) -> bool
-    requires n_in_bounds { (n ≤ length seats.now) × ((n ≤ 17) × (x < n)) }
-    requires worded_2 { Worded n sat.old.at x sat.old.racks }
-    ensures fewer { unseen n seen.new ≤ unseen n seen.old }
-    ensures worded { MatchBool result (Worded n sat.new.at n sat.new.racks) ((sat.new.at ≡ sat.old.at) × (sat.new.racks ≡ sat.old.racks)) }
-    ensures found { MatchBool result (Seated n c seats.now sat.old.at x seen.old sat.new.at) (Unseated n c seats.now sat.old.at x seen.old seen.new) }
+// Whether block y is not x, and sits in rack r.
+fn lies(at: &[Seat], x: usize, r: Rack, y: usize) -> bool
+    requires { y < length at.now }
+    ensures { result ≡ (but x y && rack_at at.now y == r.0) }
 {
-    if take_open(&seats[x], c, sat, x) {
-        return true;
+    y != x && at[y].rack.0 == r.0
+}
+
+// How many blocks other than x sit in rack r.
+fn load(at: &[Seat], n: usize, x: usize, r: Rack) -> u32
+    requires { (n ≤ length at.now) × (n ≤ 32) }
+    ensures { result ≡ load_of n at.now x r.0 }
+{
+    let mut m: u32 = 0;
+    for y in 0..n {
+        if lies(at, x, r, y) {
+            m += 1;
+        }
     }
-    make_room(seats, n, c, sat, seen, x)
+    m
+}
+
+fn marked(seen: u32, y: usize) -> bool
+    requires { y < 32 }
+    ensures { result ≡ member seen y }
+{
+    (seen >> y) & 1 == 1
+}
+
+fn mark(seen: u32, y: usize) -> u32
+    requires { y < 32 }
+    ensures { result ≡ bit_or seen (2 ^ y) }
+{
+    seen | (1 << y)
+}
+
+// Whether block x can have the seat v with no other block moving.
+fn open(at: &[Seat], n: usize, c: u32, x: usize, v: Seat, taken: bool) -> bool
+    requires n_in_bounds { (n ≤ length at.now) × (n ≤ 32) }
+    requires taken { Taken n at.now x v.node.0 taken }
+    ensures yes { result ≡ true → Free n (node_at at.now) x v.node.0 × (load_of n at.now x v.rack.0 < c) }
+    ensures no { result ≡ false → Closed n c at.now x v taken }
+{
+    !taken && load(at, n, x, v.rack) < c
+}
+
+// Whether the seat v is open once block y has given up its own.
+fn gives_way(at: &[Seat], y: usize, v: Seat, taken: bool) -> bool
+    requires { y < length at.now }
+    ensures { result ≡ gives at.now taken y v }
+{
+    if taken {
+        at[y].node.0 == v.node.0
+    } else {
+        at[y].rack.0 == v.rack.0
+    }
+}
+
+// Whether block x can have the seat v once block y has given up its own, and y was not taken out before.
+fn may_try(at: &[Seat], seen: u32, x: usize, y: usize, v: Seat, taken: bool) -> bool
+    requires { (y < length at.now) × (y < 32) }
+    ensures yes { result ≡ true → (y ≢ x) × (member seen y ≡ false) × (gives at.now taken y v ≡ true) }
+    ensures no { result ≡ false → (y ≡ x) ⊎ ((member seen y ≡ true) ⊎ (gives at.now taken y v ≡ false)) }
+{
+    y != x && !marked(seen, y) && gives_way(at, y, v, taken)
 }
 
 // Gives block x, the only one with no seat, one of its own, and moves others where it must.
-#[cycle(displace_make_room_place)]
-fn make_room(seats: &[Seats], n: usize, c: u32, sat: &mut Sitting, seen: &mut u32, x: usize) -> bool
-    requires n_in_bounds { (n ≤ length seats.now) × ((n ≤ 17) × (x < n)) }
-    requires worded_2 { Worded n sat.old.at x sat.old.racks }
+#[cycle(displace_place)]
+fn place(seats: &[Seats], n: usize, c: u32, at: &mut [Seat], seen: &mut u32, x: usize) -> bool
+    requires { (n ≤ length seats.now) × ((n ≤ length at.old) × ((n ≤ 32) × (x < n))) }
     ensures fewer { unseen n seen.new ≤ unseen n seen.old }
-    ensures worded { MatchBool result (Worded n sat.new.at n sat.new.racks) ((sat.new.at ≡ sat.old.at) × (sat.new.racks ≡ sat.old.racks)) }
-    ensures found { MatchBool result (Seated n c seats.now sat.old.at x seen.old sat.new.at) (Unseated n c seats.now sat.old.at x seen.old seen.new) }
+    ensures found { MatchBool result (Seated n c seats.now at.old x seen.old at.new) ((at.new ≡ at.old) × Unseated n c seats.now at.old x seen.old seen.new) }
 {
     let list = seats[x];
     for i in 0..list.len {
         let v = list.at[i];
-        let there = sat.racks[slot(v.rack)];
-        let Some(word) = blockers(sat, there, c, v.node) else {
-            sat.sit(x, v);
+        let taken = held(at, n, x, v.node);
+        if open(at, n, c, x, v, taken) {
+            at[x] = v;
             return true;
-        };
-        if displace(seats, n, c, sat, seen, x, v, word) {
+        }
+        if displace(seats, n, c, at, seen, x, v, taken) {
             return true;
         }
     }
     false
 }
 
-// Gives x the seat v, and places the block that gives way, for each of the blockers that was not taken out before.
-#[cycle(displace_make_room_place)]
+// Gives x the seat v, and places the block that gives way, for each block that can.
+#[cycle(displace_place)]
 fn displace(
     seats: &[Seats],
     n: usize,
     c: u32,
-    sat: &mut Sitting,
+    at: &mut [Seat],
     seen: &mut u32,
     x: usize,
     v: Seat,
-    blockers: u32,
+    taken: bool,
 ) -> bool
-    requires n_in_bounds { (n ≤ length seats.now) × ((n ≤ 17) × (x < n)) }
-    requires worded_2 { Worded n sat.old.at x sat.old.racks }
-    requires blockers { Blockers c sat.old.at (slice_index sat.old.racks (v.rack.0 % 32)) v.node.0 (Some blockers) }
+    requires n_in_bounds { (n ≤ length seats.now) × ((n ≤ length at.old) × ((n ≤ 32) × (x < n))) }
+    requires closed { Closed n c at.old x v taken }
     ensures fewer { unseen n seen.new ≤ unseen n seen.old }
-    ensures worded { MatchBool result (Worded n sat.new.at n sat.new.racks) ((sat.new.at ≡ sat.old.at) × (sat.new.racks ≡ sat.old.racks)) }
-    ensures found { MatchBool result (Freed n c seats.now sat.old.at x v seen.old sat.new.at) (Barred n c seats.now sat.old.at x v seen.old seen.new) }
+    ensures found { MatchBool result (Freed n c seats.now at.old x v seen.old at.new) ((at.new ≡ at.old) × Barred n c seats.now at.old x v seen.old seen.new) }
 {
-    let old = sat.at[x];
-    let r = slot(v.rack);
-    let there = sat.racks[r];
-    let mut left = blockers;
-    while left > 0 {
-        let y = lowest(left);
-        left = turn(left, y);
-        if !marked(*seen, y) {
+    let old = at[x];
+    for y in 0..n {
+        if may_try(at, *seen, x, y, v, taken) {
             *seen = mark(*seen, y);
-            sat.put(x, v, r, mark(turn(there, y), x));
-            if place(seats, n, c, sat, seen, y) {
+            at[x] = v;
+            if place(seats, n, c, at, seen, y) {
                 return true;
             }
-            sat.put(x, old, r, there);
+            at[x] = old;
         }
     }
     false
@@ -206,36 +146,31 @@ pub(crate) fn extend(
     seats: &[Seats],
     n: usize,
     c: u32,
-    sat: &mut Sitting,
+    at: &mut [Seat],
     x: usize,
 ) -> Result<(), u32>
-    requires n_in_bounds { (n ≤ length seats.now) × ((n ≤ 17) × (x < n)) }
-    requires worded_2 { Worded n sat.old.at x sat.old.racks }
-    ensures worded { MatchResult result (λ _. Worded n sat.new.at n sat.new.racks) (λ _. (sat.new.at ≡ sat.old.at) × (sat.new.racks ≡ sat.old.racks)) }
-    ensures found { MatchResult result
-        (λ _. (rack : ℕ → ℕ) (U : ℕ → ℕ → Bool) (N : ℕ) → Placing rack U N n c seats.now sat.old.at x → Settled rack U n c sat.new.at)
-        (λ w. (rack : ℕ → ℕ) (U : ℕ → ℕ → Bool) (N : ℕ) → Placing rack U N n c seats.now sat.old.at x → Crowding rack U N n c w) }
+    requires { (n ≤ length seats.now) × ((n ≤ length at.old) × ((n ≤ 32) × (x < n))) }
+    ensures { MatchResult result
+        (λ _. (rack : ℕ → ℕ) (U : ℕ → ℕ → Bool) (N : ℕ) → Placing rack U N n c seats.now at.old x → Settled rack U n c at.new)
+        (λ w. (at.new ≡ at.old) × ((rack : ℕ → ℕ) (U : ℕ → ℕ → Bool) (N : ℕ) → Placing rack U N n c seats.now at.old x → Crowding rack U N n c w)) }
 {
     let mut seen = mark(0, x);
-    if place(seats, n, c, sat, &mut seen, x) {
+    if place(seats, n, c, at, &mut seen, x) {
         Ok(())
     } else {
         Err(seen)
     }
 }
 
-/// Gives each of the first n blocks a seat, where none has one; or gives the least tight set of the first of them that cannot
-/// all sit.
-pub(crate) fn seat_all(seats: &[Seats], n: usize, c: u32, sat: &mut Sitting) -> Result<(), u32>
-    requires n_in_bounds { (n ≤ length seats.now) × (n ≤ 17) }
-    requires worded_2 { Worded 0 sat.old.at 0 sat.old.racks }
-    ensures worded { OnOk result (Worded n sat.new.at n sat.new.racks) }
-    ensures found { MatchResult result
-        (λ _. (rack : ℕ → ℕ) (U : ℕ → ℕ → Bool) (N : ℕ) → Sized N 32 rack U → Sits rack U n seats.now → Settled rack U n c sat.new.at)
+/// Gives each of the first n blocks a seat; or gives the least tight set of the first of them that cannot all sit.
+pub(crate) fn seat_all(seats: &[Seats], n: usize, c: u32, at: &mut [Seat]) -> Result<(), u32>
+    requires { (n ≤ length seats.now) × ((n ≤ length at.old) × (n ≤ 32)) }
+    ensures { MatchResult result
+        (λ _. (rack : ℕ → ℕ) (U : ℕ → ℕ → Bool) (N : ℕ) → Sized N 32 rack U → Sits rack U n seats.now → Settled rack U n c at.new)
         (λ w. (rack : ℕ → ℕ) (U : ℕ → ℕ → Bool) (N : ℕ) → Sized N 32 rack U → Sits rack U n seats.now → Refusing rack U N n c w) }
 {
     for m in 0..n {
-        if let Err(w) = extend(seats, m + 1, c, sat, m) {
+        if let Err(w) = extend(seats, m + 1, c, at, m) {
             return Err(w);
         }
     }

@@ -1,4 +1,4 @@
-// A block's list resolved against the map: its yes nodes in list order, each with its rack; and where blocks sit.
+// A block's list resolved against the map: its yes nodes in list order, each with its rack.
 ghost use Rattle.std.specs.Prelude.{◌≡◌, ◌≤◌, length};
 
 use site::{Node, Rack};
@@ -17,14 +17,4 @@ pub struct Seats {
     pub(crate) len: usize,
     ghost few: { len ≤ 8 },
     ghost full: { length at ≡ 8 },
-}
-
-/// Where up to 17 blocks sit, and for each rack the word of the blocks that sit there: so that a search need not look at
-/// every block to know who is in a rack.
-#[derive(Clone, Copy)]
-pub struct Sitting {
-    pub(crate) at: [Seat; 17],
-    pub(crate) racks: [u32; 32],
-    ghost places: { length at ≡ 17 },
-    ghost words: { length racks ≡ 32 },
 }

@@ -11,7 +11,7 @@ returns g c =
     let limits = g.M.SiteMap.limits c.args.map.now in
     let p = c.args.blocks.now in
     let b = copies_of c.args.offered.now in
-    let h = offered s limits c.args.c (blocks_of p) b c.as_slice.result.now c.resolve_all-seats.result c.resolve.new.seats c.len-n.result
+    let h = offered s limits c.args.c (blocks_of p) b c.as_slice.result.now c.resolve_all-seats.result c.resolve.result c.len-n.result
     c.as_slice.ensures c.len-n.ensures (omega (arith, c.len-n.ensures, length_front p.len 16 p.at p.few p.full, p.few))
-    c.resolve_all-seats.ensures c.resolve.ensures c.seat_all.new.sat.at c.seat_all.result c.seat_all.ensures.found in
+    c.resolve_all-seats.ensures c.resolve.ensures c.seat_all.new.at c.seat_all.result c.seat_all.ensures in
     record { chosen = h; listed = listed s c.args.c (lists_of p) b c.seat_all.result h }

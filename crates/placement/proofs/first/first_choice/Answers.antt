@@ -20,7 +20,7 @@ returns-in-Ok g c =
     let all : Resolved s (lists_of p) c.resolve_all-seats.result = subst (λ z. Resolved s (lists_in z) c.resolve_all-seats.result) c.as_slice.ensures c.resolve_all-seats.ensures in
     c.nodes_of.ensures
     ∙ c.settle_all.ensures s (map (filter (keeps s)) (lists_of p))
-    (standing-first s limits c.args.c (lists_of p) c.resolve_all-seats.result c.len-n.result _ (length-map (blocks_of p) copies_of ∙ sym c.len-n.ensures) (omega arith) all c.in-Ok.ensures.found)
+    (standing-first s limits c.args.c (lists_of p) c.resolve_all-seats.result c.len-n.result _ (length-map (blocks_of p) copies_of ∙ sym c.len-n.ensures) (omega arith) all c.in-Ok.ensures)
     ∙ ap first_of (seat-choices s c.args.c (lists_of p))
 
 pub returns-in-Err : goal.returns-in-Err
@@ -33,4 +33,4 @@ returns-in-Err g c =
     let long : length (lists_of p) ≡ c.len-n.result = length-map (blocks_of p) copies_of ∙ sym c.len-n.ensures in
     c.new.ensures
     ∙ sym (ap first_of (none-listed s c.args.c (lists_of p)
-    (refused s limits c.args.c (lists_of p) c.resolve_all-seats.result c.len-n.result (omega arith) long all _ c.in-Err.ensures.found)))
+    (refused s limits c.args.c (lists_of p) c.resolve_all-seats.result c.len-n.result (omega arith) long all _ c.in-Err.ensures)))

@@ -4,4 +4,4 @@ use Rattle.placement.specs.Firsts.{placed}
 use Rattle.placement.proofs.first.nodes_of.Given as goal
 
 abbrev pub invariant-loop-i : goal.invariant-loop-i
-invariant-loop-i l = node_numbers l.nodes ≡ placed l.i l.sat.at
+invariant-loop-i l = node_numbers l.nodes ≡ placed l.i l.at

@@ -1,15 +1,12 @@
-use Rattle.std.proofs.Common.{subst, arith}
+use Rattle.std.proofs.Common.{subst}
 use Rattle.std.proofs.lemmas.List.{take_all}
 use Rattle.placement.specs.Resolved.{lists_in, Resolved}
-use Rattle.placement.proofs.Resolves.{resolved_step, resolved-length}
+use Rattle.placement.proofs.Resolves.{resolved_step}
 use Rattle.placement.proofs.resolve.resolve_all.Goals as goal
-
-pub listed : goal.listed
-listed g c = omega (arith, c.requires, c.loop-i-test.true, resolved-length (g.M.SiteMap.meaning c.args.map.now) c.args.blocks.now c.loop-i.all c.loop-i.i c.requires c.loop-i-test.true c.loop-i.invariant)
 
 pub loop-i-preserved : goal.loop-i-preserved
 loop-i-preserved g c =
-    resolved_step (g.M.SiteMap.meaning c.args.map.now) c.args.blocks.now c.loop-i.all c.loop-i.i c.index-blocks-i.result c.resolve.new.seats
+    resolved_step (g.M.SiteMap.meaning c.args.map.now) c.args.blocks.now c.loop-i.all c.loop-i.i c.index-blocks-i.result c.resolve.result
     c.requires c.loop-i-test.true c.index-blocks-i.is c.resolve.ensures c.loop-i.invariant
 
 pub returns : goal.returns
