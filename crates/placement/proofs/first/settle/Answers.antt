@@ -3,7 +3,7 @@ use Rattle.placement.proofs.Narrowed.{standing-same, vain-more, narrows-more, na
 use Rattle.placement.proofs.first.settle.Goals as goal
 
 pub loop-j-init : goal.loop-j-init
-loop-j-init c = (refl, refl, c.requires.1, λ s ds h k l. absurd (omega arith))
+loop-j-init c = (refl, refl, c.requires.worded_2, λ s ds h k l. absurd (omega arith))
 
 pub loop-j-preserved : goal.loop-j-preserved
 loop-j-preserved c =
@@ -18,7 +18,7 @@ loop-j-preserved c =
 
 pub returns-then-try_seat : goal.returns-then-try_seat
 returns-then-try_seat c =
-    let l : c.args.i < c.args.n = omega (arith, c.requires.0) in
+    let l : c.args.i < c.args.n = omega (arith, c.requires.n_in_bounds) in
     let k : c.loop-j.j < c.index-seats-i.result.len = omega (arith, c.loop-j-test.true, ap (λ z. z.len) c.index-seats-i.is) in
     record {
       worded = c.if-try_seat.ensures.worded;
@@ -29,7 +29,7 @@ returns-then-try_seat c =
 
 pub returns : goal.returns
 returns c =
-    let l : c.args.i < c.args.n = omega (arith, c.requires.0) in
+    let l : c.args.i < c.args.n = omega (arith, c.requires.n_in_bounds) in
     let k : c.index-seats-i.result.len ≤ c.loop-j.j = omega (arith, c.loop-j-test.false, ap (λ z. z.len) c.index-seats-i.is) in
     record {
       worded = c.loop-j.invariant.2;

@@ -36,7 +36,10 @@ loop-i-preserved g c =
 pub invariant_of-seats-2 : goal.invariant_of-seats-2
 invariant_of-seats-2 g c =
     let k : length c.nodes-nodes.result.now ≡ length (copies_of c.args.block.now) = sym (length-map c.nodes-nodes.result.now (λ v. v.0)) ∙ ap length c.nodes-nodes.ensures in
-    (omega (arith, copies_length c.args.block.now, c.args.block.now.few, c.loop-i.invariant.1, c.loop-i.auto.i-end), (c.loop-i.seats.full, tt))
+    record {
+      few = omega (arith, copies_length c.args.block.now, c.args.block.now.few, c.loop-i.invariant.1, c.loop-i.auto.i-end);
+      full = c.loop-i.seats.full;
+    }
 
 pub returns : goal.returns
 returns g c =

@@ -5,10 +5,13 @@ use Rattle.placement.proofs.Seated.{none-sits, one_more, refused}
 use Rattle.placement.proofs.search.seat_all.Goals as goal
 
 pub loop-m-init : goal.loop-m-init
-loop-m-init c = (c.requires.1, λ rack U N z s. none-sits rack U N _ _ _ z s _)
+loop-m-init c = (c.requires.worded_2, λ rack U N z s. none-sits rack U N _ _ _ z s _)
 
 pub extend-requires : goal.extend-requires
-extend-requires c = ((omega (arith, c.requires.0, c.loop-m-test.true), (omega (arith, c.requires.0, c.loop-m-test.true), omega arith)), one_out _ _ _ c.loop-m.invariant.0)
+extend-requires c = record {
+  n_in_bounds = (omega (arith, c.requires.n_in_bounds, c.loop-m-test.true), (omega (arith, c.requires.n_in_bounds, c.loop-m-test.true), omega arith));
+  worded_2 = one_out _ _ _ c.loop-m.invariant.0;
+}
 
 pub loop-m-preserved : goal.loop-m-preserved
 loop-m-preserved c = (
