@@ -28,9 +28,9 @@ pub fn run<M: SiteMap>(
     answers: &mut [Result<Answer, Refusal>],
 ) -> Store<M>
     ensures map { result.map ≡ map }
-    ensures ledger { ledger_of result ≡ ledger (meaning map) (calls_of calls.now (length rows.old)) }
-    ensures answers { AllAnswered (meaning map) (length rows.old) (calls_of calls.now (length rows.old)) answers.new }
-    ensures rows { lines rows.new ≡ rows_left (meaning map) (calls_of calls.now (length rows.old)) (lines rows.old) }
+    ensures ledger { ledger_of result ≡ ledger (M.meaning map) (calls_of calls.now (length rows.old)) }
+    ensures answers { AllAnswered (M.meaning map) (length rows.old) (calls_of calls.now (length rows.old)) answers.new }
+    ensures rows { lines rows.new ≡ rows_left (M.meaning map) (calls_of calls.now (length rows.old)) (lines rows.old) }
     ensures past { drop (length calls.now) answers.new ≡ drop (length calls.now) answers.old }
 {
     let mut store = Store::new(map);

@@ -12,7 +12,7 @@ use Rattle.reader.specs.declared.form.Want.TheVariants.{Number}
 use Rattle.reader.specs.Wants.{Fit}
 use Rattle.reader.specs.Rows.{RowFault, Clean, named}
 use Rattle.reader.specs.Names.{code_names, InOrder, OrEmpty}
-use Rattle.reader.specs.Codes.{CodeFault, CodeEnd, CodeRead, CodeWords, code_text}
+use Rattle.reader.specs.Codes.{CodeFault, CodeEnd, CodeRead, code_text}
 use Rattle.reader.proofs.RowLaws.{same-not-after, row_line, row-empty}
 use Rattle.reader.proofs.LineLaws.{line-is}
 use Rattle.reader.proofs.FieldLaws.{row_fits, row-text}
@@ -128,14 +128,13 @@ module _ (n : ℕ) (ls : List (List ℕ)) (names : Line) (mid : List (List ℕ))
   pub code-end-read : Clean (RowFault Numbers is line.number (take 65536 line.bytes.now)) → (f : Fault) (past : List (List ℕ)) (m₃ : ℕ) → CodeEnd after m₂ (Err f) past m₃ → Least (CodeFault n ls) f
   code-end-read clean f past m₃ t = subst (λ l. Least (CodeFault n l) f) (sym first-is) (ended clean (Err f) past m₃ t)
 
-  pub code_read : Clean (RowFault Numbers is line.number (take 65536 line.bytes.now)) → (u : Unit) (past : List (List ℕ)) (m₃ : ℕ) → CodeEnd after m₂ (Ok u) past m₃ → (v : CodeValues) → ReadAs is (parted 44 (take 65536 line.bytes.now)) 0 4294967295 v.n → ReadAs is (parted 44 (take 65536 line.bytes.now)) 1 4294967295 v.k → ReadAs is (parted 44 (take 65536 line.bytes.now)) 2 4294967295 v.c → ReadAs is (parted 44 (take 65536 line.bytes.now)) 3 4294967295 v.targets → CodeWords v → CodeRead n ls v past m₃
-  code_read clean u past m₃ t v a b c d words =
+  pub code_read : Clean (RowFault Numbers is line.number (take 65536 line.bytes.now)) → (u : Unit) (past : List (List ℕ)) (m₃ : ℕ) → CodeEnd after m₂ (Ok u) past m₃ → (v : CodeValues) → ReadAs is (parted 44 (take 65536 line.bytes.now)) 0 4294967295 v.n → ReadAs is (parted 44 (take 65536 line.bytes.now)) 1 4294967295 v.k → ReadAs is (parted 44 (take 65536 line.bytes.now)) 2 4294967295 v.c → ReadAs is (parted 44 (take 65536 line.bytes.now)) 3 4294967295 v.targets → CodeRead n ls v past m₃
+  code_read clean u past m₃ t v a b c d =
       let e = ended clean (Ok u) past m₃ t in
       let text = code-text line.number names.bytes.now (take 65536 line.bytes.now) is v o clean a b c d in
       subst (λ l. CodeRead n l v past m₃) (sym first-is) (record {
         clean = e.0;
         text = (is, o, subst (λ bs. parted 44 bs ≡ map (code_text v) is) values.bytes text);
-        words = words;
         long = e.1;
         after_it = e.2;
         next = e.3;

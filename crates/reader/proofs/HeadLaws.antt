@@ -72,9 +72,7 @@ module _ (sheet : List ℕ) (short : length sheet ≤ 65536) where
     head_read calls v was table s = record {
       clean = clean-same (SitePartFault mid.number (left_of mid)) (HeadFault sheet) site-same s.clean;
       code = read.text;
-      code_words = read.words;
       site = subst (λ ls. SiteText ls v table) read.after_it s.text;
-      site_words = s.words;
       kept = s.kept;
       calls = s.after_it ∙ ap past_part read.after_it;
       number = s.next ∙ (λ x. past_number (read.next x) (read.after_it x));

@@ -13,7 +13,6 @@ use Rattle.reader.specs.declared.sites.SiteValues.TheVariants.{Regular, Listed}
 use Rattle.reader.specs.Wants.{Fit}
 use Rattle.reader.specs.Rows.{RowFault, Clean, named}
 use Rattle.reader.specs.Names.{regular_names, node_names, InOrder, OrEmpty}
-use Rattle.reader.specs.Codes.{Word}
 use Rattle.reader.specs.Listings.{NodesFault, NodesRead, past_part, past_number}
 use Rattle.reader.specs.Sites.{RegularFault, RegularText, regular_text, RegularRead, RegularEnd, SitePartFault, SiteText, SiteRead}
 use Rattle.reader.proofs.RowLaws.{Same, same-not-after, row_line, row-empty, least-same, clean-same}
@@ -21,7 +20,7 @@ use Rattle.reader.proofs.LineLaws.{line-is, no_bytes}
 use Rattle.reader.proofs.FieldLaws.{row_fits, row-text}
 use Rattle.reader.proofs.NameLaws.{regular-apart, node-apart, one-order, order-some, order-names, order-fields}
 use Rattle.reader.proofs.CodeLaws.{ReadAs}
-use Rattle.reader.proofs.ListingLaws.{listed-whole, length_front}
+use Rattle.reader.proofs.ListingLaws.{listed-whole}
 
 pub regular-ends : (ls : List (List ℕ)) (n : ℕ) (line : Line) (after : List (List ℕ)) (m : ℕ) → NextLine ls n (Some line) after m → length line.bytes.now ≡ 0 → RegularEnd ls n (Ok tt) after m
 regular-ends [] n line after m t e = absurd t
@@ -71,13 +70,12 @@ module _ (n : ℕ) (ls : List (List ℕ)) (names is : List ℕ) (o : InOrder reg
   pub regular-end-read : Clean (RowFault Numbers is line.number (take 65536 line.bytes.now)) → (f : Fault) (past : List (List ℕ)) (k : ℕ) → RegularEnd after m (Err f) past k → Least (RegularFault is n ls) f
   regular-end-read clean f past k t = ended clean (Err f) past k t
 
-  pub regular-read : Clean (RowFault Numbers is line.number (take 65536 line.bytes.now)) → (u : Unit) (past : List (List ℕ)) (k : ℕ) → RegularEnd after m (Ok u) past k → (racks each : ℕ) → ReadAs is (parted 44 (take 65536 line.bytes.now)) 0 4294967295 racks → ReadAs is (parted 44 (take 65536 line.bytes.now)) 1 4294967295 each → Word racks × Word each → RegularRead is n ls racks each past k
-  regular-read clean u past k t racks each a b words =
+  pub regular-read : Clean (RowFault Numbers is line.number (take 65536 line.bytes.now)) → (u : Unit) (past : List (List ℕ)) (k : ℕ) → RegularEnd after m (Ok u) past k → (racks each : ℕ) → ReadAs is (parted 44 (take 65536 line.bytes.now)) 0 4294967295 racks → ReadAs is (parted 44 (take 65536 line.bytes.now)) 1 4294967295 each → RegularRead is n ls racks each past k
+  regular-read clean u past k t racks each a b =
       let e = ended clean (Ok u) past k t in
       record {
         clean = e.0;
         text = subst (λ bs. RegularText is bs racks each) values.bytes (regular-text line.number names (take 65536 line.bytes.now) is racks each o clean a b);
-        words = words;
         after_it = e.1;
         next = e.2;
       }
@@ -131,7 +129,6 @@ module _ (ls : List (List ℕ)) (n : ℕ) (names : Line) (mid : List (List ℕ))
       record {
         clean = clean-same (RegularFault is m mid) (SitePartFault n ls) (regular-faults is o) r.clean;
         text = subst (λ l. SiteText l (Regular racks each) table) (sym lines_are) (is, o, r.text);
-        words = r.words;
         kept = refl;
         after_it = r.after_it ∙ p.0;
         next = r.next ∙ p.1;
@@ -146,7 +143,6 @@ module _ (ls : List (List ℕ)) (n : ℕ) (names : Line) (mid : List (List ℕ))
       record {
         clean = clean-same (NodesFault is m 0 mid) (SitePartFault n ls) (listed-faults is o) r.clean;
         text = subst (λ l. SiteText l (Listed nodes) table) (sym lines_are) (is, o, r.text);
-        words = (omega (arith, r.few, length_front nodes table), r.racked);
         kept = (r.few, r.back, listed-whole nodes table r.few r.racked);
         after_it = r.after_it ∙ p.0;
         next = r.next ∙ p.1;

@@ -37,7 +37,6 @@ CodeText ls v = (is : List ℕ) × InOrder code_names (slice_index_or ls 0 []) i
 pub record CodeRead (n : ℕ) (ls : List (List ℕ)) (v : CodeValues) (after : List (List ℕ)) (m : ℕ) : Type 0 where
   pub clean : Clean (CodeFault n ls)
   pub text : CodeText ls v
-  pub words : CodeWords v
   pub long : 3 ≤ length ls
   pub after_it : after ≡ drop 3 ls
   pub next : m ≡ n + 3

@@ -11,8 +11,7 @@ use Rattle.reader.specs.declared.sites.SiteValues.{SiteValues}
 use Rattle.reader.specs.declared.sites.SiteValues.TheVariants.{Regular, Listed}
 use Rattle.reader.specs.Rows.{RowFault, Clean}
 use Rattle.reader.specs.Names.{regular_names, node_names, InOrder, NoOrder}
-use Rattle.reader.specs.Codes.{Word}
-use Rattle.reader.specs.Listings.{NodesFault, NodesText, Places, past_part, past_number}
+use Rattle.reader.specs.Listings.{NodesFault, NodesText, past_part, past_number}
 
 -- a fault of a regular site's lines below its names, from number n on: its value line, and the line that is to end it
 abbrev pub RegularFault : List ℕ → ℕ → List (List ℕ) → Fault → Type 0
@@ -38,11 +37,6 @@ abbrev pub SiteText : List (List ℕ) → SiteValues → List Place → Type 0
 SiteText ls (Regular racks each) table = (is : List ℕ) × InOrder regular_names (slice_index_or ls 0 []) is × RegularText is (slice_index_or ls 1 []) racks each
 SiteText ls (Listed nodes) table = (is : List ℕ) × InOrder node_names (slice_index_or ls 0 []) is × NodesText is 0 (drop 1 ls) (take nodes table)
 
--- the values are of a size that a sheet can write
-abbrev pub SiteWords : SiteValues → List Place → Type 0
-SiteWords (Regular racks each) table = Word racks × Word each
-SiteWords (Listed nodes) table = Places (take nodes table)
-
 -- the table past what was written is as it was, and a listed map over what was written means just that
 abbrev pub Kept : SiteValues → List Place → List Place → Type 0
 Kept (Regular racks each) was table = table ≡ was
@@ -52,7 +46,6 @@ Kept (Listed nodes) was table = (nodes ≤ 256) × (drop nodes table ≡ drop no
 pub record RegularRead (is : List ℕ) (n : ℕ) (ls : List (List ℕ)) (racks each : ℕ) (after : List (List ℕ)) (m : ℕ) : Type 0 where
   pub clean : Clean (RegularFault is n ls)
   pub text : RegularText is (slice_index_or ls 0 []) racks each
-  pub words : Word racks × Word each
   pub after_it : after ≡ past_part ls
   pub next : m ≡ past_number n ls
 
@@ -60,7 +53,6 @@ pub record RegularRead (is : List ℕ) (n : ℕ) (ls : List (List ℕ)) (racks e
 pub record SiteRead (n : ℕ) (ls : List (List ℕ)) (v : SiteValues) (was table : List Place) (after : List (List ℕ)) (m : ℕ) : Type 0 where
   pub clean : Clean (SitePartFault n ls)
   pub text : SiteText ls v table
-  pub words : SiteWords v table
   pub kept : Kept v was table
   pub after_it : after ≡ past_part ls
   pub next : m ≡ past_number n ls

@@ -5,7 +5,7 @@ use text::lines::Lines;
 
 /// The call lines that are yet to come, the order of their names, and the store that has had the calls before them.
 #[derive(Drop)]
-pub struct Run<'a, M: SiteMap> {
+pub struct Run<'a, M> {
     pub(crate) lines: Lines<'a>,
     pub(crate) order: [usize; 3],
     pub(crate) store: Store<M>,

@@ -33,8 +33,8 @@ every_more f g h (x ∷ xs) e = let p = and_parts (f x) (every f xs) e in and_fr
 
 -- another record in one place
 pub fits-put : {M : Type 0} (st : Store M) (r : ℕ) (x : Stripe) → allowed st.code x ≡ true
-    → (length (set st.stripes r x) ≡ 32) × ((fitted st.code (set st.stripes r x) ≡ true) × Unit {0})
-fits-put st r x h = (length-set st.stripes r x ∙ st.full, (every_set (allowed st.code) st.stripes r x h st.within, tt))
+    → (length (set st.stripes r x) ≡ 32) × (fitted st.code (set st.stripes r x) ≡ true)
+fits-put st r x h = (length-set st.stripes r x ∙ st.full, every_set (allowed st.code) st.stripes r x h st.within)
 
 -- empty stripes are allowed under any code
 pub allowed-empty : (o : Option Code) (x : Stripe) → stripe_of x ≡ led.empty → allowed o x ≡ true

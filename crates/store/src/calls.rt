@@ -13,8 +13,8 @@ impl<M: SiteMap> Store<M> {
     /// Makes a call. Whatever calls the store has had since it was made, the answer is the one that the rules give at their
     /// ledger, and the promise is kept.
     pub fn call(&mut self, call: &Call<'_>, rows: &mut [Row]) -> Result<Answer, Refusal>
-        ensures told { Told (meaning self.old.map) self.old self.new (call_of call.now (length rows.old)) result rows.old rows.new }
-        ensures since { (h : List Asked) → ledger_of self.old ≡ ledger (meaning self.old.map) h → Since (meaning self.old.map) h (call_of call.now (length rows.old)) (ledger_of self.new) result rows.old rows.new }
+        ensures told { Told (M.meaning self.old.map) self.old self.new (call_of call.now (length rows.old)) result rows.old rows.new }
+        ensures since { (h : List Asked) → ledger_of self.old ≡ ledger (M.meaning self.old.map) h → Since (M.meaning self.old.map) h (call_of call.now (length rows.old)) (ledger_of self.new) result rows.old rows.new }
     {
         match *call {
             Call::SetUp { n, k, c } => self.set_up(n, k, c),

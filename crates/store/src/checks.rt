@@ -11,7 +11,7 @@ use site::{Node, RACKS, Rack, SiteMap};
 
 /// Whether every node is on the map.
 pub(crate) fn all_on_map<M: SiteMap>(map: &M, nodes: &[Node]) -> bool
-    ensures { result ≡ every (on_map (meaning map.now)) (numbers nodes.now) }
+    ensures { result ≡ every (on_map (M.meaning map.now)) (numbers nodes.now) }
 {
     let count = map.nodes();
     for v in nodes {
@@ -48,7 +48,7 @@ pub(crate) fn all_differ(nodes: &[Node]) -> bool
 
 /// A node's rack; past the last node the first number that is no rack.
 pub(crate) fn rack_of<M: SiteMap>(map: &M, v: Node) -> Rack
-    ensures { result.0 ≡ node_rack (meaning map.now) v.0 }
+    ensures { result.0 ≡ node_rack (M.meaning map.now) v.0 }
 {
     match map.node(v) {
         Some((rack, _)) => rack,
@@ -58,7 +58,7 @@ pub(crate) fn rack_of<M: SiteMap>(map: &M, v: Node) -> Rack
 
 /// Whether no node lies in the rack.
 pub(crate) fn all_outside<M: SiteMap>(map: &M, rack: Rack, nodes: &[Node]) -> bool
-    ensures { result ≡ every (λ v. not (node_rack (meaning map.now) v == rack.0)) (numbers nodes.now) }
+    ensures { result ≡ every (λ v. not (node_rack (M.meaning map.now) v == rack.0)) (numbers nodes.now) }
 {
     for v in nodes {
         if rack_of(map, *v).0 == rack.0 {
@@ -77,7 +77,7 @@ pub(crate) fn bit_on(word: u32, rack: Rack) -> bool
 
 /// The rack of the first node; of no nodes, the first number that is no rack.
 pub(crate) fn core_rack<M: SiteMap>(map: &M, nodes: &[Node]) -> Rack
-    ensures { result.0 ≡ core (meaning map.now) (numbers nodes.now) }
+    ensures { result.0 ≡ core (M.meaning map.now) (numbers nodes.now) }
 {
     if nodes.len() > 0 {
         rack_of(map, nodes[0])
@@ -88,7 +88,7 @@ pub(crate) fn core_rack<M: SiteMap>(map: &M, nodes: &[Node]) -> Rack
 
 /// Whether no node but the first lies in the rack.
 pub(crate) fn rest_outside<M: SiteMap>(map: &M, rack: Rack, nodes: &[Node]) -> bool
-    ensures { result ≡ every (λ v. not (node_rack (meaning map.now) v == rack.0)) (rest (numbers nodes.now)) }
+    ensures { result ≡ every (λ v. not (node_rack (M.meaning map.now) v == rack.0)) (rest (numbers nodes.now)) }
 {
     if nodes.len() > 0 {
         all_outside(map, rack, &nodes[1..])

@@ -34,7 +34,7 @@ impl<M: SiteMap> Store<M> {
         requires coded { self.old.code ≡ Some code }
         requires near { rack.0 < 32 }
         requires below { length (blocks_of (stripe (ledger_of self.old) rack.0)) < code.k }
-        ensures { Tried (meaning self.old.map) code.c rack.0 (held_of block) self.old self.new result }
+        ensures { Tried (M.meaning self.old.map) code.c rack.0 (held_of block) self.old self.new result }
     {
         let s = &self.stripes[rack.0 as usize];
         let own = s.blocks();
@@ -51,7 +51,7 @@ impl<M: SiteMap> Store<M> {
 
     /// Offers a block with the nodes that hold its copies.
     pub fn offer(&mut self, number: u32, nodes: &[Node]) -> Result<Answer, Refusal>
-        ensures { Told (meaning self.old.map) self.old self.new (offer number (numbers nodes.now)) result [] [] }
+        ensures { Told (M.meaning self.old.map) self.old self.new (offer number (numbers nodes.now)) result [] [] }
     {
         let Some(code) = self.code else {
             return Err(Refusal::NotSetUp);
@@ -87,7 +87,7 @@ impl<M: SiteMap> Store<M> {
 
     /// Seals a filling stripe of k blocks, its parity visited from the start node on, and notes its plan.
     pub fn seal(&mut self, rack: Rack, start: Node) -> Result<Answer, Refusal>
-        ensures { Told (meaning self.old.map) self.old self.new (seal rack.0 start.0) result [] [] }
+        ensures { Told (M.meaning self.old.map) self.old self.new (seal rack.0 start.0) result [] [] }
     {
         let Some(code) = self.code else {
             return Err(Refusal::NotSetUp);

@@ -19,13 +19,13 @@ use site::{Node, RACKS, Rack, SiteMap};
 
 // Whether a planned node is not lost, neither by itself nor with its rack.
 fn stands<M: SiteMap>(map: &M, v: Node, lost: &[Node], racks: u32) -> bool
-    ensures { result ≡ (not (has v.0 (numbers lost.now)) && not (member racks (node_rack (meaning map.now) v.0))) }
+    ensures { result ≡ (not (has v.0 (numbers lost.now)) && not (member racks (node_rack (M.meaning map.now) v.0))) }
 {
     !among(v, lost) && !bit_on(racks, rack_of(map, v))
 }
 
 fn count_standing<M: SiteMap>(map: &M, planned: &Nodes, lost: &[Node], racks: u32) -> u32
-    ensures { result ≡ stand (meaning map.now) (node_numbers planned.now) (numbers lost.now) racks }
+    ensures { result ≡ stand (M.meaning map.now) (node_numbers planned.now) (numbers lost.now) racks }
 {
     let mut count = 0;
     for v in planned.as_slice() {
@@ -39,7 +39,7 @@ fn count_standing<M: SiteMap>(map: &M, planned: &Nodes, lost: &[Node], racks: u3
 impl<M: SiteMap> Store<M> {
     /// Writes the rows of a sealed stripe's plan.
     pub fn plan(&self, rack: Rack, rows: &mut [Row]) -> Result<Answer, Refusal>
-        ensures { Told (meaning self.now.map) self.now self.now (plan rack.0 (length rows.old)) result rows.old rows.new }
+        ensures { Told (M.meaning self.now.map) self.now self.now (plan rack.0 (length rows.old)) result rows.old rows.new }
     {
         let Some(code) = self.code else {
             return Err(Refusal::NotSetUp);
@@ -61,7 +61,7 @@ impl<M: SiteMap> Store<M> {
 
     /// Writes a row for each copy that a sealed stripe's plan does not keep.
     pub fn deletions(&self, rack: Rack, rows: &mut [Row]) -> Result<Answer, Refusal>
-        ensures { Told (meaning self.now.map) self.now self.now (deletions rack.0 (length rows.old)) result rows.old rows.new }
+        ensures { Told (M.meaning self.now.map) self.now self.now (deletions rack.0 (length rows.old)) result rows.old rows.new }
     {
         let Some(_) = self.code else {
             return Err(Refusal::NotSetUp);
@@ -83,7 +83,7 @@ impl<M: SiteMap> Store<M> {
 
     /// How many planned blocks are on no lost node and in no lost rack.
     pub fn standing(&self, rack: Rack, lost: &[Node], racks: u32) -> Result<Answer, Refusal>
-        ensures { Told (meaning self.now.map) self.now self.now (standing rack.0 (numbers lost.now) racks) result [] [] }
+        ensures { Told (M.meaning self.now.map) self.now self.now (standing rack.0 (numbers lost.now) racks) result [] [] }
     {
         let Some(_) = self.code else {
             return Err(Refusal::NotSetUp);

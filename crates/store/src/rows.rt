@@ -12,7 +12,7 @@ use blocks::lists::{Blocks, Nodes};
 use site::{Node, SiteMap};
 
 fn row_of<M: SiteMap>(map: &M, kind: Kind, number: u32, node: Node) -> Row
-    ensures { shown result ≡ (kind_of kind, number, node.0, node_rack (meaning map.now) node.0) }
+    ensures { shown result ≡ (kind_of kind, number, node.0, node_rack (M.meaning map.now) node.0) }
 {
     Row {
         kind,
@@ -34,7 +34,7 @@ fn put(rows: &mut [Row], at: usize, row: Row)
 // The plan's row at place i: a block's while there are blocks, then parity from 1 on.
 fn planned_row<M: SiteMap>(map: &M, blocks: &Blocks, node: Node, i: usize) -> Row
     requires { i < 24 }
-    ensures { shown result ≡ plan_row (meaning map.now) (helds_of blocks.now) i node.0 }
+    ensures { shown result ≡ plan_row (M.meaning map.now) (helds_of blocks.now) i node.0 }
 {
     match blocks.get(i) {
         Some(block) => row_of(map, Kind::Data, block.number(), node),
@@ -49,8 +49,8 @@ pub(crate) fn write_plan<M: SiteMap>(
     plan: &Nodes,
     rows: &mut [Row],
 ) -> usize
-    ensures count { result ≡ length (plan_rows (meaning map.now) (helds_of blocks.now) (node_numbers plan.now)) }
-    ensures rows { result ≤ length rows.old → lines rows.new ≡ plan_rows (meaning map.now) (helds_of blocks.now) (node_numbers plan.now) ++ drop result (lines rows.old) }
+    ensures count { result ≡ length (plan_rows (M.meaning map.now) (helds_of blocks.now) (node_numbers plan.now)) }
+    ensures rows { result ≤ length rows.old → lines rows.new ≡ plan_rows (M.meaning map.now) (helds_of blocks.now) (node_numbers plan.now) ++ drop result (lines rows.old) }
 {
     for (i, v) in plan.as_slice().iter().enumerate() {
         put(rows, i, planned_row(map, blocks, *v, i));
@@ -78,8 +78,8 @@ fn write_gone_of<M: SiteMap>(
     at: usize,
 ) -> usize
     requires { at ≤ 1000 }
-    ensures end { result ≡ at + length (gone_of (meaning map.now) (held_of block.now) stays.0) }
-    ensures rows { result ≤ length rows.old → lines rows.new ≡ take at (lines rows.old) ++ (gone_of (meaning map.now) (held_of block.now) stays.0 ++ drop result (lines rows.old)) }
+    ensures end { result ≡ at + length (gone_of (M.meaning map.now) (held_of block.now) stays.0) }
+    ensures rows { result ≤ length rows.old → lines rows.new ≡ take at (lines rows.old) ++ (gone_of (M.meaning map.now) (held_of block.now) stays.0 ++ drop result (lines rows.old)) }
 {
     let mut end = at;
     for w in block.nodes() {
@@ -98,8 +98,8 @@ pub(crate) fn write_gone<M: SiteMap>(
     plan: &Nodes,
     rows: &mut [Row],
 ) -> usize
-    ensures count { result ≡ length (gone_rows (meaning map.now) (helds_of blocks.now) (node_numbers plan.now)) }
-    ensures rows { result ≤ length rows.old → lines rows.new ≡ gone_rows (meaning map.now) (helds_of blocks.now) (node_numbers plan.now) ++ drop result (lines rows.old) }
+    ensures count { result ≡ length (gone_rows (M.meaning map.now) (helds_of blocks.now) (node_numbers plan.now)) }
+    ensures rows { result ≤ length rows.old → lines rows.new ≡ gone_rows (M.meaning map.now) (helds_of blocks.now) (node_numbers plan.now) ++ drop result (lines rows.old) }
 {
     let mut at = 0;
     for (i, v) in plan.as_slice().iter().enumerate() {

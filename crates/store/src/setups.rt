@@ -12,7 +12,7 @@ use site::SiteMap;
 impl<M: SiteMap> Store<M> {
     /// Sets the code up, once, where the map has space for it.
     pub fn set_up(&mut self, n: u32, k: u32, c: u32) -> Result<Answer, Refusal>
-        ensures { Told (meaning self.old.map) self.old self.new (set_up n k c) result [] [] }
+        ensures { Told (M.meaning self.old.map) self.old self.new (set_up n k c) result [] [] }
     {
         if let Some(_) = self.code {
             return Err(Refusal::SetUpBefore);

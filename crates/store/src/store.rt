@@ -4,11 +4,10 @@ ghost use Rattle.store.specs.Fitted.{fitted};
 
 use crate::stripe::Stripe;
 use blocks::code::Code;
-use site::SiteMap;
 
 /// No stripe has more than k blocks, a sealed one has k, and all are empty while there is no code.
 #[derive(Drop)]
-pub struct Store<M: SiteMap> {
+pub struct Store<M> {
     pub(crate) map: M,
     pub(crate) code: Option<Code>,
     pub(crate) stripes: [Stripe; 32],

@@ -24,7 +24,7 @@ impl<M: SiteMap> Store<M> {
 
     /// Empties a sealed stripe.
     pub fn release(&mut self, rack: Rack) -> Result<Answer, Refusal>
-        ensures { Told (meaning self.old.map) self.old self.new (release rack.0) result [] [] }
+        ensures { Told (M.meaning self.old.map) self.old self.new (release rack.0) result [] [] }
     {
         let Some(_) = self.code else {
             return Err(Refusal::NotSetUp);
@@ -46,7 +46,7 @@ impl<M: SiteMap> Store<M> {
 
     /// Empties a filling or sealed stripe.
     pub fn abandon(&mut self, rack: Rack) -> Result<Answer, Refusal>
-        ensures { Told (meaning self.old.map) self.old self.new (abandon rack.0) result [] [] }
+        ensures { Told (M.meaning self.old.map) self.old self.new (abandon rack.0) result [] [] }
     {
         let Some(_) = self.code else {
             return Err(Refusal::NotSetUp);

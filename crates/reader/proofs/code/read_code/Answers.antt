@@ -32,4 +32,3 @@ returns c =
     let l = c.args.lines.now in
     code_read l.number (left_of l) c.in-Some.names (left_of c.next_line.new.self) c.next_line.new.self.number c.in-Some-code_order.order c.next_or_empty-line.result (left_of c.next_or_empty-line.new.lines) c.next_or_empty-line.new.lines.number c.in-Some.ensures.next c.in-Some-code_order.ensures c.next_or_empty-line.ensures c.in_ok-check_row.ensures _ (left_of c.end_code.new.lines) c.end_code.new.lines.number c.in_ok-end_code.ensures
     _ c.number_named.ensures.text c.number_named-2.ensures.text c.number_named-3.ensures.text c.number_named-4.ensures.text
-    (c.number_named.ensures.within, c.number_named-2.ensures.within, c.number_named-3.ensures.within, c.number_named-4.ensures.within)

@@ -19,4 +19,3 @@ pub returns : goal.returns
 returns c =
     let l = c.args.lines.now in
     regular-read l.number (left_of l) c.requires.0 c.args.order.now c.requires.1 c.next_or_empty-line.result (left_of c.next_or_empty-line.new.lines) c.next_or_empty-line.new.lines.number c.next_or_empty-line.ensures c.in_ok-check_row.ensures _ (left_of c.end_regular.new.lines) c.end_regular.new.lines.number c.in_ok-end_regular.ensures c.number_named-racks.result c.number_named-each.result c.number_named-racks.ensures.text c.number_named-each.ensures.text
-    (c.number_named-racks.ensures.within, c.number_named-each.ensures.within)

@@ -8,7 +8,9 @@ use Rattle.store.proofs.Fits.{fits-put, allowed-empty}
 use Rattle.store.proofs.store.Store.release.Goals as goal
 
 pub invariant_of-self : goal.invariant_of-self
-invariant_of-self g c = fits-put c.args.self.now c.args.rack.0 c.clear.new.self (allowed-empty c.args.self.now.code c.clear.new.self c.clear.ensures)
+invariant_of-self g c =
+    let p = fits-put c.args.self.now c.args.rack.0 c.clear.new.self (allowed-empty c.args.self.now.code c.clear.new.self c.clear.ensures) in
+    record { full = p.0; within = p.1 }
 
 pub returns-in-Empty : goal.returns-in-Empty
 returns-in-Empty g c =

@@ -4,7 +4,7 @@ use Rattle.store.proofs.Fits.{fits-code}
 use Rattle.store.proofs.store.Store.set_up.Goals as goal
 
 pub invariant_of-self : goal.invariant_of-self
-invariant_of-self g c = (c.args.self.now.full, (fits-code c.args.self.now c.in-Some-new.code c.in_default.is, tt))
+invariant_of-self g c = record { full = c.args.self.now.full; within = fits-code c.args.self.now c.in-Some-new.code c.in_default.is }
 
 pub returns : goal.returns
 returns g c =
