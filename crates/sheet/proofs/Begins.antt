@@ -1,26 +1,29 @@
 -- A run that has just begun.
-use Rattle.std.proofs.Common.{◌≡◌, ℕ, ◌+◌, true, List, [], ◌∷◌, ◌++◌, is_err, IsErrAnd, Some, None, Ok, Err, codes, Option, Result, sym, refl, ap, ◌∙◌, subst, append-nil, arith}
+use Rattle.std.proofs.Common.{◌≡◌, ℕ, ◌+◌, ◌≤◌, true, is_err, IsErrAnd, List, [], ◌∷◌, ◌++◌, map, Some, None, Ok, Err, Option, Result, sym, refl, ap, ◌∙◌, subst, arith}
 use Rattle.std.proofs.lemmas.Bool.{true≢false}
 use Rattle.site.specs.Site.{Site}
+use Rattle.text.specs.Faults.{Least}
 use Rattle.text.specs.Rows.{left_of}
+use Rattle.text.specs.declared.fault.Fault.{Fault}
 use Rattle.text.specs.declared.lines.Lines.{Lines}
 use Rattle.reader.specs.declared.code.CodeValues.{CodeValues}
-use Rattle.reader.specs.Calls.{CallsRead, CallOrder}
+use Rattle.reader.specs.Names.{InOrder, call_names}
+use Rattle.reader.specs.Calls.{CallsFault, CallsRead, CallOrder}
 use Rattle.store.specs.declared.store.Store.{Store}
 use Rattle.store.specs.declared.types.Row.{Row}
 use Rattle.store.specs.declared.types.Answer.{Answer}
 use Rattle.store.specs.declared.types.Refusal.{Refusal}
-use Rattle.store.specs.Stripes.{Ledger, Call, start}
+use Rattle.store.specs.Stripes.{Code, Ledger, Call, start}
 use Rattle.store.specs.Refusals.{number_of, refused_by}
-use Rattle.store.specs.Ledger.{ledger}
-use Rattle.store.specs.Answers.{Answered}
+use Rattle.store.specs.Ledger.{step, ledger, code_noted}
+use Rattle.store.specs.Answers.{shown, accepted, written, Answered}
 use Rattle.store.specs.Table.{ledger_of}
 use Rattle.store.specs.Told.{Since}
 use Rattle.sheet.specs.declared.run.Run.{Run}
 use Rattle.sheet.specs.declared.faults.RunFault.{RunFault}
 use Rattle.sheet.specs.declared.faults.RunFault.TheVariants as fault
-use Rattle.sheet.specs.Going.{Going}
-use Rattle.sheet.specs.Starts.{set_up_call, unbegun, part_after, Begun}
+use Rattle.sheet.specs.Going.{Part, Going}
+use Rattle.sheet.specs.Starts.{set_up_call, part_of, Begun}
 use Rattle.sheet.proofs.Answering.{AnsweredWith}
 
 accepted-with : (s : Site) (l : Ledger) (call : Call) (a : Answer) (old new : List Row) (told : Option ℕ) → AnsweredWith s l call (Ok a) old new told → told ≡ None
@@ -48,12 +51,19 @@ next-number : (n : ℕ) (ls : List (List ℕ)) (is : List ℕ) (after : List (Li
 next-number n [] is after m h = absurd h
 next-number n (l ∷ ls) is after m h = (h.0, h.1, refl)
 
-pub begun : {M : Type 0} (s : Site) (h : List Call) (v : CodeValues) (n : ℕ) (ls : List (List ℕ)) (is : List ℕ) (lines : Lines) (store : Store M) (a : Answer) (old new : List Row)
-    → Since s h (set_up_call v) (ledger_of store) (Ok a) old new → CallsRead n ls is (left_of lines) lines.number
-    → CallsRead n ls is (left_of lines) (n + 1) × (refused_by s (ledger s h) (set_up_call v) ≡ None)
-    × Going (part_after s h v is (n + 1) (left_of lines)) [] (record { lines = lines; order = is; store = store })
-begun s h v n ls is lines store a old new since read =
-    let none = taken s (ledger s h) (set_up_call v) a old new since.answered in
+note_with : CodeValues → Option ℕ → Ledger
+note_with v told = elim told [ Some q ↦ start | None ↦ code_noted start (set_up_call v) ]
+
+code-noted : (s : Site) (v : CodeValues) → refused_by s start (set_up_call v) ≡ None → (step s start (set_up_call v)).code ≡ Some (record { n = v.n; k = v.k; c = v.c })
+unfolding note_with
+code-noted s v h = ap (λ told. (note_with v told).code) h
+
+pub begun : {M : Type 0} (s : Site) (v : CodeValues) (n : ℕ) (ls : List (List ℕ)) (is : List ℕ) (lines : Lines) (store : Store M) (a : Answer) (old new : List Row)
+    → Since s [] (set_up_call v) (ledger_of store) (Ok a) old new → CallsRead n ls is (left_of lines) lines.number
+    → CallsRead n ls is (left_of lines) (n + 1) × (refused_by s start (set_up_call v) ≡ None)
+    × Going (part_of s v is (n + 1) (left_of lines)) [] (record { lines = lines; order = is; store = store })
+begun s v n ls is lines store a old new since read =
+    let none = taken s start (set_up_call v) a old new since.answered in
     let r = names-read n ls is (left_of lines) lines.number read in (
       next-number n ls is (left_of lines) lines.number read,
       none,
@@ -64,21 +74,14 @@ begun s h v n ls is lines store a old new since read =
         said = tt;
         here = refl;
         number = omega (arith, r.1);
-        ledgered = since.ledgered ∙ ap (ledger s) (sym (append-nil (h ++ (set_up_call v ∷ []))));
+        coded = (record { n = v.n; k = v.k; c = v.c }, code-noted s v none);
+        ledgered = since.ledgered;
       },
     )
 
 -- one whose set-up is refused
-pub unbegun-refused : {M : Type 0} (s : Site) (h : List Call) (v : CodeValues) (names : List ℕ) (ls : List (List ℕ)) (n : ℕ) (r : Result Unit RunFault) (run : Run M) (e : Refusal)
-    → (is_err r ≡ true) × IsErrAnd r (λ f. f ≡ fault.SetUp e) → (after : Ledger) (old new : List Row) → Since s h (set_up_call v) after (Err e) old new → Begun s h v names ls n r run
-unbegun-refused s h v names ls n (Ok u) run e is after old new since = absurd (true≢false (sym is.0))
-unbegun-refused s h v names ls n (Err f) run e is after old new since =
-    subst (λ x. Begun s h v names ls n (Err x) run) (sym is.1) (refused s (ledger s h) (set_up_call v) e old new since.answered)
-
-usual : CallOrder (0 ∷ 1 ∷ 2 ∷ [])
-usual = (codes "call,first,rest", record { all = refl; once = refl; names = (omega arith, (omega arith, (omega arith, tt))); fields = refl })
-
--- a run that has still to begin
-pub new-going : {M : Type 0} (s : Site) (lines : Lines) (store : Store M) → ledger_of store ≡ start
-    → Going (unbegun s lines.number (left_of lines)) [] (record { lines = lines; order = 0 ∷ 1 ∷ 2 ∷ []; store = store })
-new-going s lines store e = record { named = usual; ordered = refl; within = omega arith; said = tt; here = refl; number = omega arith; ledgered = e }
+pub unbegun-refused : {M : Type 0} (s : Site) (v : CodeValues) (ls : List (List ℕ)) (n : ℕ) (r : Result Unit RunFault) (run : Run M) (e : Refusal)
+    → (is_err r ≡ true) × IsErrAnd r (λ f. f ≡ fault.SetUp e) → (after : Ledger) (old new : List Row) → Since s [] (set_up_call v) after (Err e) old new → Begun s v ls n r run
+unbegun-refused s v ls n (Ok u) run e is after old new since = absurd (true≢false (sym is.0))
+unbegun-refused s v ls n (Err f) run e is after old new since =
+    subst (λ x. Begun s v ls n (Err x) run) (sym is.1) (refused s start (set_up_call v) e old new since.answered)

@@ -1,12 +1,13 @@
 -- A long list of nodes, cut to nine.
-use Rattle.std.proofs.Common.{◌≡◌, ℕ, zero, suc, ◌<◌, ◌≤◌, List, [], ◌∷◌, ◌++◌, length, get_or, take, drop, set, Some, Ok, sym, refl, ap, ◌∙◌, subst, inl, inr, arith, length-append, length-take}
-use native.Mathlib.Nat.{le-min}
+use Rattle.std.proofs.Common.{◌≡◌, ℕ, zero, suc, ◌+◌, ◌<◌, ◌≤◌, List, [], ◌∷◌, ◌++◌, map, length, get_or, take, drop, set, replicate, Some, Ok, Err, sym, refl, ap, ◌∙◌, subst, inl, inr, arith, length-append, length-take}
+use native.Mathlib.Nat.{min-le_left, le-min}
 use Rattle.std.proofs.lemmas.Bool.{cases_lt}
 use Rattle.site.specs.Site.{Site}
 use Rattle.text.specs.NodeLists.{padded, kept}
 use Rattle.text.specs.declared.nodes.NodeList.{NodeList}
 use Rattle.text.specs.Texts.{whole}
-use Rattle.store.specs.Stripes.{Ledger, Call, offer}
+use Rattle.store.specs.declared.types.Refusal.TheVariants.{ListLength}
+use Rattle.store.specs.Stripes.{Code, Ledger, Call, offer}
 use Rattle.store.specs.Ledger.{ledger}
 use Rattle.sheet.specs.Replies.{reply_text}
 use Rattle.sheet.specs.Runs.{Lined, line_for}
@@ -52,17 +53,17 @@ cut-kept list vs ws e t =
     }
 
 -- a call with the cut list is answered as the call with the whole list
-pub lined-cut : (s : Site) (h : List Call) (b : ℕ) (vs ws : List ℕ) (after : Ledger) (count : ℕ) (was is : List ℕ) → Cut vs ws
+pub lined-cut : (s : Site) (h : List Call) (b : ℕ) (vs ws : List ℕ) (o : Code) (after : Ledger) (count : ℕ) (was is : List ℕ) → (ledger s h).code ≡ Some o → Cut vs ws
     → Lined s h (offer b ws) after count was is → Lined s h (offer b vs) after count was is
-lined-cut s h b vs ws after count was is cut lined =
+lined-cut s h b vs ws o after count was is has cut lined =
     let l = ledger s h in
     elim (cases_lt 8 (length vs)) [
       | inr low ↦ subst (λ (us : List ℕ). Lined s h (offer b us) after count was is) (cut.short low) lined
       | inl long ↦
           let line : line_for s l (Ok (offer b ws)) ≡ line_for s l (Ok (offer b vs)) =
-          ap (λ r. reply_text b r []) (long-answer s l b ws (cut.long long) ∙ sym (long-answer s l b vs long)) in
+          ap (λ r. reply_text b r []) (long-answer s l o b ws has (cut.long long) ∙ sym (long-answer s l o b vs has long)) in
           let next : ledger s (h ++ (offer b ws ∷ [])) ≡ ledger s (h ++ (offer b vs ∷ [])) =
-          ledger-more s h (offer b ws) ∙ long-step s l b ws (cut.long long) ∙ sym (long-step s l b vs long) ∙ sym (ledger-more s h (offer b vs)) in
+          ledger-more s h (offer b ws) ∙ long-step s l o b ws has (cut.long long) ∙ sym (long-step s l o b vs has long) ∙ sym (ledger-more s h (offer b vs)) in
           record {
             ledgered = lined.ledgered ∙ next;
             text = lined.text ∙ ap (whole was) line;

@@ -1,22 +1,52 @@
 -- A run that has come so far, and one line further.
-use Rattle.std.proofs.Common.{◌≡◌, ℕ, zero, suc, ◌+◌, ◌≤◌, List, [], ◌∷◌, ◌++◌, map, length, take, drop, Some, None, Ok, Err, sym, refl, ap, ◌∙◌, subst, append_assoc, arith}
-use Rattle.std.proofs.lemmas.List.{length_push, length-drop}
+use Rattle.std.proofs.Common.{◌≡◌, ℕ, zero, suc, ◌+◌, ◌<◌, ◌≤◌, Bool, true, false, cond, List, [], ◌∷◌, ◌++◌, map, length, take, drop, Some, None, Ok, Err, decimal, Option, Result, sym, refl, ap, ◌∙◌, subst, append_assoc, append-nil, arith, length-append}
+use Rattle.std.proofs.lemmas.List.{take_all, drop_all, length_push, length-drop}
+use Rattle.site.specs.Site.{Site}
+use Rattle.text.specs.Faults.{Least}
+use Rattle.text.specs.Pieces.{parted}
+use Rattle.text.specs.Spaced.{spaced}
 use Rattle.text.specs.Rows.{left_of, NextLine}
+use Rattle.text.specs.Texts.{whole}
 use Rattle.text.specs.declared.fault.Fault.{Fault}
 use Rattle.text.specs.declared.lines.Line.{Line}
 use Rattle.text.specs.declared.lines.Lines.{Lines}
 use Rattle.reader.specs.declared.calls.Asked.{Asked}
 use Rattle.reader.specs.declared.calls.Asked.TheVariants.{Offer, Seal, Plan, Deletions, Release, Abandon}
-use Rattle.reader.specs.Calls.{CallOrder, CallRead, call_text}
+use Rattle.reader.specs.declared.calls.CallLine.{CallLine}
+use Rattle.reader.specs.Calls.{CallFault, CallOrder, CallRead, CallText, RestText, call_text}
 use Rattle.store.specs.declared.store.Store.{Store}
-use Rattle.store.specs.Stripes.{Call, offer, seal, plan, deletions, release, abandon}
-use Rattle.store.specs.Ledger.{ledger}
+use Rattle.store.specs.Stripes.{Code, Ledger, Call, set_up, offer, seal, plan, deletions, standing, release, abandon}
+use Rattle.store.specs.Refusals.{refused_by}
+use Rattle.store.specs.Ledger.{step, ledger, noted, code_noted}
 use Rattle.store.specs.Table.{ledger_of}
 use Rattle.sheet.specs.declared.run.Run.{Run}
-use Rattle.sheet.specs.Said.{Said, Stands, Low, LineSays, LinesSay}
-use Rattle.sheet.specs.Runs.{line_for, lines_from, calls_in}
+use Rattle.sheet.specs.Said.{Said, Writes, field_text, Stands, Low, LineSays, LinesSay}
+use Rattle.sheet.specs.FaultTexts.{fault_line}
+use Rattle.sheet.specs.Runs.{line_for, lines_from, calls_in, Lined}
 use Rattle.sheet.specs.Going.{Part, Going, line_after}
-use Rattle.sheet.proofs.Lines.{calls-append, lines-append, lines_noted}
+use Rattle.sheet.proofs.Lines.{ledger-more, calls-append, lines-append, lines_noted}
+
+-- the code stays
+
+noted-code : (s : Site) (o : Code) (l : Ledger) (call : Call) → (noted s o l call).code ≡ l.code
+noted-code s o l (set_up n k c) = refl
+noted-code s o l (offer b vs) = refl
+noted-code s o l (seal r v) = refl
+noted-code s o l (plan r rows) = refl
+noted-code s o l (deletions r rows) = refl
+noted-code s o l (standing r vs w) = refl
+noted-code s o l (release r) = refl
+noted-code s o l (abandon r) = refl
+
+step_with : Site → Ledger → Call → Option ℕ → Option Code → Ledger
+step_with s l call told code = elim told [ Some q ↦ l | None ↦ elim code [ None ↦ code_noted l call | Some o ↦ noted s o l call ] ]
+
+pub code_stays : (s : Site) (l : Ledger) (call : Call) (o : Code) → l.code ≡ Some o → (step s l call).code ≡ Some o
+unfolding step_with
+code_stays s l call o has =
+    let by : (told : Option ℕ) → (step_with s l call told (Some o)).code ≡ Some o =
+    λ told. elim told as (λ t. (step_with s l call t (Some o)).code ≡ Some o) [ Some q ↦ has | None ↦ noted-code s o l call ∙ has ] in
+    ap (λ (code : Option Code). (step_with s l call (refused_by s l call) code).code) has ∙ by (refused_by s l call)
 
 -- what a call line says
 
@@ -100,9 +130,10 @@ module _ {M : Type 0} (p : Part) (cs : List Said) (was : Run M) (going : Going p
   -- one line further, with what it says and the ledger after it
   pub going_more : (line : Line) (lines : Lines) (store : Store M) (c : Said) → Next (left_of was.lines) was.lines.number line (left_of lines) lines.number
       → LineSays p.order line.number line.bytes.now c
+      → ((o : Code) × ((ledger p.site (p.before ++ calls_in (cs ++ (c ∷ [])))).code ≡ Some o))
       → ledger_of store ≡ ledger p.site (p.before ++ calls_in (cs ++ (c ∷ [])))
       → Going p (cs ++ (c ∷ [])) (record { lines = lines; order = was.order; store = store })
-  going_more line lines store c next says ledgered =
+  going_more line lines store c next says coded ledgered =
       let n = length cs in
       let one : length (cs ++ (c ∷ [])) ≡ suc n = omega (arith, length_push cs c) in
       let m = one_more n p.lines next.now_it next.later (sym going.here ∙ next.all) in
@@ -117,6 +148,7 @@ module _ {M : Type 0} (p : Part) (cs : List Said) (was : Run M) (going : Going p
             (said_more p.order p.number (take n p.lines) cs next.now_it c going.said here);
         here = next.after_it ∙ sym (ap (λ k. drop k p.lines) one ∙ m.1);
         number = omega (arith, next.next, going.number);
+        coded = coded;
         ledgered = ledgered;
       }
 
@@ -133,6 +165,7 @@ module _ {M : Type 0} (p : Part) (cs : List Said) (was : Run M) (going : Going p
           said = going.said;
           here = e.1 ∙ sym none;
           number = e.2 ∙ going.number;
+          coded = going.coded;
           ledgered = going.ledgered;
         },
         omega (arith, going.within, ap length none, length-drop (length cs) p.lines),

@@ -1,16 +1,15 @@
 -- The lines of a run, one more at a time.
-use Rattle.std.proofs.Common.{◌≡◌, ℕ, suc, ◌<◌, ◌||◌, ltb, List, [], ◌∷◌, ◌++◌, length, take, drop, Some, None, Ok, Err, decimal, fold, Option, sym, refl, ap, ◌∙◌, append_assoc, append-nil, take-append-drop}
+use Rattle.std.proofs.Common.{◌≡◌, ℕ, zero, suc, ◌<◌, ◌≤◌, Bool, true, false, ◌||◌, ltb, List, [], ◌∷◌, ◌++◌, map, length, take, drop, Some, None, Ok, Err, decimal, fold, Option, Result, sym, refl, ap, ◌∙◌, subst, append_assoc, append-nil, arith, take-append-drop}
 use Rattle.std.specs.List.{flat_map}
 use Rattle.std.proofs.lemmas.Bool.{lt-ltb, or_right, cond-true}
-use Rattle.site.specs.Site.{Site}
+use Rattle.site.specs.Site.{Site, node_rack}
 use Rattle.text.specs.Spaced.{spaced}
-use Rattle.store.specs.declared.types.Refusal.{Refusal}
-use Rattle.store.specs.declared.types.Refusal.TheVariants.{ListLength, NotSetUp}
+use Rattle.store.specs.declared.types.Refusal.TheVariants.{ListLength}
 use Rattle.store.specs.Stripes.{Block, Code, Ledger, Call, offer, start}
 use Rattle.store.specs.Refusals.{first, checks, refused_by}
 use Rattle.store.specs.Ledger.{step, ledger, noted, code_noted}
-use Rattle.store.specs.Answers.{Line, accepted, data_rows, parity_rows, plan_rows}
-use Rattle.sheet.specs.Replies.{row_text, further_text, rows_text}
+use Rattle.store.specs.Answers.{Line, accepted, data_rows, parity_rows, plan_rows, written}
+use Rattle.sheet.specs.Replies.{row_text, further_text, rows_text, reply_text}
 use Rattle.sheet.specs.Results.{refusal_of, crowd_of, answer_of}
 use Rattle.sheet.specs.Said.{Said}
 use Rattle.sheet.specs.Runs.{line_for, note_line, lines_from, calls_in}
@@ -85,32 +84,17 @@ calls-append [] call = refl
 calls-append (Ok d ∷ cs) call = ap (λ x. d ∷ x) (calls-append cs call)
 calls-append (Err f ∷ cs) call = calls-append cs call
 
--- a list of more than eight nodes is refused whatever its nodes are: for its length, or for want of a code
+-- a list of more than eight nodes is refused whatever its nodes are
 
-abbrev too_long : Option Code → ℕ
-too_long code = elim code [ None ↦ 20 | Some o ↦ 3 ]
+long-refused : (s : Site) (l : Ledger) (o : Code) (b : ℕ) (vs : List ℕ) → l.code ≡ Some o → 8 < length vs → refused_by s l (offer b vs) ≡ Some 3
+long-refused s l o b vs has long =
+    ap (λ (code : Option Code). elim code [ None ↦ Some 20 | Some p ↦ first (checks s p l (offer b vs)) ]) has
+    ∙ cond-true (ltb (length vs) 2 || ltb 8 (length vs)) (Some 3) _ (or_right (ltb (length vs) 2) (ltb 8 (length vs)) (lt-ltb 8 (length vs) long))
 
-abbrev refused_long : Option Code → Refusal
-refused_long code = elim code [ None ↦ NotSetUp | Some o ↦ ListLength ]
+pub long-answer : (s : Site) (l : Ledger) (o : Code) (b : ℕ) (vs : List ℕ) → l.code ≡ Some o → 8 < length vs → answer_of s l (offer b vs) ≡ Err ListLength
+long-answer s l o b vs has long =
+    ap (λ (told : Option ℕ). elim told [ None ↦ Ok (accepted s l (offer b vs)) | Some q ↦ Err (refusal_of (crowd_of s l (offer b vs)) q) ]) (long-refused s l o b vs has long)
 
-long-refused : (s : Site) (l : Ledger) (b : ℕ) (vs : List ℕ) → 8 < length vs → refused_by s l (offer b vs) ≡ Some (too_long l.code)
-long-refused s l b vs long =
-    let P : Option Code → Type 0 = λ code. elim code [ None ↦ Some 20 | Some o ↦ first (checks s o l (offer b vs)) ] ≡ Some (too_long code) in
-    let both : (code : Option Code) → P code = λ code. elim code as P [
-      | None ↦ refl
-      | Some o ↦ cond-true (ltb (length vs) 2 || ltb 8 (length vs)) (Some 3) _ (or_right (ltb (length vs) 2) (ltb 8 (length vs)) (lt-ltb 8 (length vs) long))
-    ] in
-    both l.code
-
-told-long : (w : ℕ) (code : Option Code) → refusal_of w (too_long code) ≡ refused_long code
-told-long w None = refl
-told-long w (Some o) = refl
-
-pub long-answer : (s : Site) (l : Ledger) (b : ℕ) (vs : List ℕ) → 8 < length vs → answer_of s l (offer b vs) ≡ Err (refused_long l.code)
-long-answer s l b vs long =
-    ap (λ (told : Option ℕ). elim told [ None ↦ Ok (accepted s l (offer b vs)) | Some q ↦ Err (refusal_of (crowd_of s l (offer b vs)) q) ]) (long-refused s l b vs long)
-    ∙ ap Err (told-long (crowd_of s l (offer b vs)) l.code)
-
-pub long-step : (s : Site) (l : Ledger) (b : ℕ) (vs : List ℕ) → 8 < length vs → step s l (offer b vs) ≡ l
-long-step s l b vs long =
-    ap (λ (told : Option ℕ). elim told [ Some q ↦ l | None ↦ elim l.code [ None ↦ code_noted l (offer b vs) | Some p ↦ noted s p l (offer b vs) ] ]) (long-refused s l b vs long)
+pub long-step : (s : Site) (l : Ledger) (o : Code) (b : ℕ) (vs : List ℕ) → l.code ≡ Some o → 8 < length vs → step s l (offer b vs) ≡ l
+long-step s l o b vs has long =
+    ap (λ (told : Option ℕ). elim told [ Some q ↦ l | None ↦ elim l.code [ None ↦ code_noted l (offer b vs) | Some p ↦ noted s p l (offer b vs) ] ]) (long-refused s l o b vs has long)

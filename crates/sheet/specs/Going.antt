@@ -3,7 +3,7 @@ use Rattle.std.specs.Prelude.{◌≡◌, ℕ, ◌+◌, ◌<◌, ◌≤◌, List,
 use Rattle.site.specs.Site.{Site}
 use Rattle.text.specs.Rows.{left_of}
 use Rattle.reader.specs.Calls.{CallOrder}
-use Rattle.store.specs.Stripes.{Call}
+use Rattle.store.specs.Stripes.{Code, Call}
 use Rattle.store.specs.Ledger.{ledger}
 use Rattle.store.specs.Table.{ledger_of}
 use Rattle.sheet.specs.declared.run.Run.{Run}
@@ -27,6 +27,7 @@ pub record Going {M : Type 0} (p : Part) (cs : List Said) (run : Run M) : Type 0
   pub said : LinesSay p.order p.number (take (length cs) p.lines) cs
   pub here : left_of run.lines ≡ drop (length cs) p.lines
   pub number : run.lines.number ≡ p.number + length cs
+  pub coded : (o : Code) × ((ledger p.site (p.before ++ calls_in cs)).code ≡ Some o)
   pub ledgered : ledger_of run.store ≡ ledger p.site (p.before ++ calls_in cs)
 
 -- the line that answers what is said after cs

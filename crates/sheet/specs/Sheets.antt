@@ -1,5 +1,5 @@
 -- The lines of a sheet, from its bytes alone.
-use Rattle.std.specs.Prelude.{◌≡◌, ℕ, ◌+◌, ◌⊎◌, List, [], ◌∷◌, length, take, drop, Some, None, Ok, Err, slice_index_or}
+use Rattle.std.specs.Prelude.{◌≡◌, ℕ, ◌+◌, ◌⊎◌, List, [], ◌∷◌, length, take, drop, Some, None, Ok, Err, Result, slice_index_or}
 use Rattle.site.specs.Site.{Site, Place}
 use Rattle.site.specs.Maps.{Fit, regular, listed, target}
 use Rattle.text.specs.Faults.{Least}
@@ -11,8 +11,8 @@ use Rattle.reader.specs.declared.code.CodeValues.{CodeValues}
 use Rattle.reader.specs.declared.opening.Opening.{Opening}
 use Rattle.reader.specs.Rows.{Clean}
 use Rattle.reader.specs.Names.{InOrder, regular_names, node_names}
-use Rattle.reader.specs.Codes.{Word, CodeWords, CodeText}
-use Rattle.reader.specs.Listings.{NodesText, Places, past_part, past_number}
+use Rattle.reader.specs.Codes.{CodeText}
+use Rattle.reader.specs.Listings.{NodesText, past_part, past_number}
 use Rattle.reader.specs.Sites.{RegularText}
 use Rattle.reader.specs.SiteMaps.{kind_meaning}
 use Rattle.reader.specs.Heads.{HeadFault}
@@ -29,13 +29,12 @@ use Rattle.sheet.specs.Runs.{lines_from}
 use Rattle.sheet.specs.Going.{Going}
 use Rattle.sheet.specs.Starts.{count_of, RunOpened, set_up_call, part_of, Begun}
 
--- the lines of the site part say a regular site of so many racks and nodes each, or a listing of these places: numbers of
--- 32 bits, and places that a listing can write
+-- the lines of the site part say a regular site of so many racks and nodes each, or a listing of these places
 abbrev pub RegularSaid : List (List ℕ) → ℕ → ℕ → Type 0
-RegularSaid ls racks each = Word racks × Word each × ((is : List ℕ) × InOrder regular_names (slice_index_or ls 0 []) is × RegularText is (slice_index_or ls 1 []) racks each)
+RegularSaid ls racks each = (is : List ℕ) × InOrder regular_names (slice_index_or ls 0 []) is × RegularText is (slice_index_or ls 1 []) racks each
 
 abbrev pub ListingSaid : List (List ℕ) → List Place → Type 0
-ListingSaid ls ps = Places ps × ((is : List ℕ) × InOrder node_names (slice_index_or ls 0 []) is × NodesText is 0 (drop 1 ls) ps)
+ListingSaid ls ps = (is : List ℕ) × InOrder node_names (slice_index_or ls 0 []) is × NodesText is 0 (drop 1 ls) ps
 
 -- and the site that they mean
 abbrev pub SiteSaid : List (List ℕ) → Site → Type 0
@@ -57,7 +56,6 @@ calls_at sheet = past_number 4 (site_lines sheet)
 pub record Says (sheet : List ℕ) (v : CodeValues) (s : Site) : Type 0 where
   pub clean : Clean (HeadFault sheet)
   pub code : CodeText (lines_of sheet) v
-  pub words : CodeWords v
   pub base : Site
   pub site : SiteSaid (site_lines sheet) base
   pub means : s ≡ target v.targets base
@@ -101,8 +99,8 @@ OpenedSays = (sheet : List ℕ) (was table : List Place) (lines : Lines) (o : Op
 
 -- a run that does not begin has the one line of its fault
 abbrev pub UnbegunTold : {M : Type 0} → Run M → Type 0
-UnbegunTold run = (sheet : List ℕ) (v : CodeValues) (s : Site) (names : List ℕ) (f : RunFault) → Says sheet v s
-    → Begun s [] v names (call_lines sheet) (calls_at sheet) (Err f) run → LinesFor sheet (run_fault_text f ∷ [])
+UnbegunTold run = (sheet : List ℕ) (v : CodeValues) (s : Site) (f : RunFault) → Says sheet v s
+    → Begun s v (call_lines sheet) (calls_at sheet) (Err f) run → LinesFor sheet (run_fault_text f ∷ [])
 
 -- and one that has begun and has answered every line has given all lines, in order
 abbrev pub WholeTold : {M : Type 0} → Run M → Type 0
@@ -113,7 +111,3 @@ WholeTold run = (sheet : List ℕ) (v : CodeValues) (s : Site) (is : List ℕ) (
 -- the bytes, with the code and the site that they say, leave one list of lines
 abbrev pub ToldOne : Type 0
 ToldOne = (sheet : List ℕ) (v : CodeValues) (s : Site) (xs ys : List (List ℕ)) → StoreTold sheet v s xs → StoreTold sheet v s ys → xs ≡ ys
-
--- and so do the bytes alone
-abbrev pub LinesOne : Type 0
-LinesOne = (sheet : List ℕ) (xs ys : List (List ℕ)) → LinesFor sheet xs → LinesFor sheet ys → xs ≡ ys

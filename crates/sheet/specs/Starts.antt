@@ -1,19 +1,16 @@
 -- How a run starts.
-use Rattle.std.specs.Prelude.{◌≡◌, ℕ, ◌+◌, List, [], ◌∷◌, ◌++◌, Some, None, Ok, Err, Result}
+use Rattle.std.specs.Prelude.{◌≡◌, ℕ, ◌+◌, List, [], ◌∷◌, Some, None, Ok, Err, Result}
 use Rattle.site.specs.Site.{Site, Place}
 use Rattle.text.specs.Faults.{Least}
-use Rattle.text.specs.Rows.{left_of}
 use Rattle.text.specs.declared.lines.Lines.{Lines}
 use Rattle.reader.specs.declared.code.CodeValues.{CodeValues}
 use Rattle.reader.specs.declared.sites.SiteValues.{SiteValues}
 use Rattle.reader.specs.declared.sites.SiteValues.TheVariants.{Regular, Listed}
 use Rattle.reader.specs.declared.opening.Opening.{Opening}
 use Rattle.reader.specs.Openings.{Opened}
-use Rattle.reader.specs.Calls.{CallsFault, CallsRead, Further}
-use Rattle.store.specs.Stripes.{Call, set_up}
+use Rattle.reader.specs.Calls.{CallsFault, CallsRead}
+use Rattle.store.specs.Stripes.{Call, set_up, start}
 use Rattle.store.specs.Refusals.{number_of, refused_by}
-use Rattle.store.specs.Ledger.{ledger}
-use Rattle.store.specs.Table.{ledger_of}
 use Rattle.sheet.specs.declared.run.Run.{Run}
 use Rattle.sheet.specs.declared.faults.RunFault.{RunFault}
 use Rattle.sheet.specs.declared.faults.RunFault.TheVariants as fault
@@ -34,29 +31,14 @@ RunOpened sheet was table lines (Err (fault.Calls f)) = ⊥
 abbrev pub set_up_call : CodeValues → Call
 set_up_call v = set_up v.n v.k v.c
 
--- the calls part as a run has it that has still to begin: its store has had no call, and no names line was read
-abbrev pub unbegun : Site → ℕ → List (List ℕ) → Part
-unbegun s n ls = record { site = s; before = []; order = 0 ∷ 1 ∷ 2 ∷ []; number = n; lines = ls }
-
 -- the calls part after its names line
 abbrev pub part_of : Site → CodeValues → List ℕ → ℕ → List (List ℕ) → Part
 part_of s v is n ls = record { site = s; before = set_up_call v ∷ []; order = is; number = n; lines = ls }
 
--- the same at a store that has had the calls h before its set-up
-abbrev pub part_after : Site → List Call → CodeValues → List ℕ → ℕ → List (List ℕ) → Part
-part_after s h v is n ls = record { site = s; before = h ++ (set_up_call v ∷ []); order = is; number = n; lines = ls }
-
--- a run whose names line is wrong: its store is set up, it is past that line, and it keeps the order that it had
-pub record Unnamed {M : Type 0} (s : Site) (h : List Call) (v : CodeValues) (names : List ℕ) (ls : List (List ℕ)) (n : ℕ) (run : Run M) : Type 0 where
-  pub ordered : run.order ≡ names
-  pub further : Further ls n (left_of run.lines) run.lines.number
-  pub ledgered : ledger_of run.store ≡ ledger s (h ++ (set_up_call v ∷ []))
-
--- over a store that has had the calls h, with the calls part from line n on and an order of names: the set-up's refusal; or the
--- fault of the names line; or the run has answered none of the lines below it
-abbrev pub Begun : {M : Type 0} → Site → List Call → CodeValues → List ℕ → List (List ℕ) → ℕ → Result Unit RunFault → Run M → Type 0
-Begun s h v names ls n (Ok u) run =
-    (is : List ℕ) × (after : List (List ℕ)) × CallsRead n ls is after (n + 1) × (refused_by s (ledger s h) (set_up_call v) ≡ None) × Going (part_after s h v is (n + 1) after) [] run
-Begun s h v names ls n (Err (fault.Site f)) run = ⊥
-Begun s h v names ls n (Err (fault.SetUp e)) run = refused_by s (ledger s h) (set_up_call v) ≡ Some (number_of e)
-Begun s h v names ls n (Err (fault.Calls f)) run = (refused_by s (ledger s h) (set_up_call v) ≡ None) × Least (CallsFault n ls) f × Unnamed s h v names ls n run
+-- over a new store, with the calls part from line n on: the set-up's refusal; or the fault of the names line; or the run
+-- has answered none of the lines below it
+abbrev pub Begun : {M : Type 0} → Site → CodeValues → List (List ℕ) → ℕ → Result Unit RunFault → Run M → Type 0
+Begun s v ls n (Ok u) run = (is : List ℕ) × (after : List (List ℕ)) × CallsRead n ls is after (n + 1) × (refused_by s start (set_up_call v) ≡ None) × Going (part_of s v is (n + 1) after) [] run
+Begun s v ls n (Err (fault.Site f)) run = ⊥
+Begun s v ls n (Err (fault.SetUp e)) run = refused_by s start (set_up_call v) ≡ Some (number_of e)
+Begun s v ls n (Err (fault.Calls f)) run = (refused_by s start (set_up_call v) ≡ None) × Least (CallsFault n ls) f

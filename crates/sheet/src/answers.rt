@@ -1,7 +1,7 @@
 // One call of a sheet: it is made at the store, and its line is written.
-ghost use Rattle.std.specs.Prelude.{◌≡◌, ◌≤◌, List, [], ◌∷◌, ◌++◌, length};
+ghost use Rattle.std.specs.Prelude.{◌≡◌, ◌≤◌, List, [], ◌∷◌, ◌++◌, length, Some};
 ghost use Rattle.blocks.specs.Blocks.{numbers};
-ghost use Rattle.store.specs.Stripes.{Call as LedgerCall};
+ghost use Rattle.store.specs.Stripes.{Code, Call as LedgerCall};
 ghost use Rattle.store.specs.Ledger.{ledger};
 ghost use Rattle.store.specs.Table.{ledger_of, call_of};
 ghost use Rattle.sheet.specs.Said.{first_of, Stands, Low};
@@ -63,7 +63,7 @@ pub(crate) fn answer_line<M: SiteMap>(store: &mut Store<M>, line: CallLine, out:
     ensures within { result ≤ length out.old }
     ensures map { store.new.map ≡ store.old.map }
     ensures low { Low line.asked × (line.first ≤ 4294967295) }
-    ensures line { (h : List LedgerCall) (call : LedgerCall) → Stands line.asked line.first call → ledger_of store.old ≡ ledger (M.SiteMap.meaning store.old.map) h → Lined (M.SiteMap.meaning store.old.map) h call (ledger_of store.new) result out.old out.new }
+    ensures line { (h : List LedgerCall) (call : LedgerCall) (o : Code) → Stands line.asked line.first call → (ledger (M.SiteMap.meaning store.old.map) h).code ≡ Some o → ledger_of store.old ≡ ledger (M.SiteMap.meaning store.old.map) h → Lined (M.SiteMap.meaning store.old.map) h call (ledger_of store.new) result out.old out.new }
 {
     let first = line.first;
     match line.asked {

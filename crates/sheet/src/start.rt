@@ -1,15 +1,13 @@
 // The start of a run: a sheet is opened, its store is made and set up, and the names of its calls are read.
-ghost use Rattle.std.specs.Prelude.{◌≡◌, List, [], take, Err};
+ghost use Rattle.std.specs.Prelude.{◌≡◌, take, Err};
 ghost use Rattle.site.specs.Maps.{target, listed};
 ghost use Rattle.text.specs.Rows.{left_of};
 ghost use Rattle.reader.specs.SiteMaps.{kind_meaning, map_meaning};
 ghost use Rattle.store.specs.declared.types.Refusal.{Refusal};
-ghost use Rattle.store.specs.Stripes.{start, Call as LedgerCall};
-ghost use Rattle.store.specs.Ledger.{ledger};
+ghost use Rattle.store.specs.Stripes.{start};
 ghost use Rattle.store.specs.Table.{ledger_of};
 ghost use Rattle.sheet.specs.declared.faults.RunFault.TheVariants.{SetUp};
-ghost use Rattle.sheet.specs.Going.{Going};
-ghost use Rattle.sheet.specs.Starts.{count_of, RunOpened, unbegun, Begun};
+ghost use Rattle.sheet.specs.Starts.{count_of, RunOpened, Begun};
 ghost use Rattle.sheet.specs.Sheets.{Enough};
 
 use crate::faults::RunFault;
@@ -74,7 +72,6 @@ impl<'a, M: SiteMap> Run<'a, M> {
         ensures ledger { ledger_of result.store ≡ start }
         ensures left { left_of result.lines ≡ left_of lines.entry }
         ensures number { result.lines.number ≡ lines.entry.number }
-        ensures going { Going (unbegun (M.SiteMap.meaning map) lines.entry.number (left_of lines.entry)) [] result }
     {
         Run {
             lines,
@@ -87,7 +84,7 @@ impl<'a, M: SiteMap> Run<'a, M> {
     pub fn begin(&mut self, code: CodeValues) -> Result<(), RunFault>
         ensures map { self.new.store.map ≡ self.old.store.map }
         ensures refused { (e : Refusal) → result ≡ Err (SetUp e) → self.new ≡ self.old }
-        ensures begun { (h : List LedgerCall) → ledger_of self.old.store ≡ ledger (M.SiteMap.meaning self.old.store.map) h → Begun (M.SiteMap.meaning self.old.store.map) h code self.old.order (left_of self.old.lines) self.old.lines.number result self.new }
+        ensures begun { ledger_of self.old.store ≡ start → Begun (M.SiteMap.meaning self.old.store.map) code (left_of self.old.lines) self.old.lines.number result self.new }
     {
         let call: Call<'static> = Call::SetUp {
             n: code.n,

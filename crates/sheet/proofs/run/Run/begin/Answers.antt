@@ -12,9 +12,9 @@ returns g c =
     record {
       map = c.in_ok-call.ensures.told.kept;
       refused = λ e h. absurd (let z : ◌≡◌ {A = ℕ} 0 1 = cc in omega arith);
-      begun = λ h had.
-          let b = begun (g.M.SiteMap.meaning was.store.map) h c.args.code was.lines.number (left_of was.lines) is lines c.call.new.self c.in_ok-call.field-0 _ c.call.new.rows
-          (c.in_ok-call.ensures.since h had) c.in_ok-self.ensures.read in
+      begun = λ new.
+          let b = begun (g.M.SiteMap.meaning was.store.map) c.args.code was.lines.number (left_of was.lines) is lines c.call.new.self c.in_ok-call.field-0 _ c.call.new.rows
+          (c.in_ok-call.ensures.since _ new) c.in_ok-self.ensures.read in
           (is, left_of lines, b.0, b.1, b.2);
     }
 
@@ -26,8 +26,8 @@ returns-in_err-call g c =
     record {
       map = told.kept;
       refused = λ _ _. ap (λ (x : Store g.row.M.Denot). record { lines = was.lines; order = was.order; store = x }) (told.refused refl).0;
-      begun = λ h had.
-          unbegun-refused (g.M.SiteMap.meaning was.store.map) h c.args.code was.order (left_of was.lines) was.lines.number c.from_residual.result
+      begun = λ new.
+          unbegun-refused (g.M.SiteMap.meaning was.store.map) c.args.code (left_of was.lines) was.lines.number c.from_residual.result
           (record { lines = was.lines; order = was.order; store = c.call.new.self }) e c.from_residual.ensures
-          _ _ _ (c.in_err-call.ensures.since h had);
+          _ _ _ (c.in_err-call.ensures.since _ new);
     }
