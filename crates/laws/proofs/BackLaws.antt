@@ -21,11 +21,13 @@ use Rattle.reader.specs.declared.sites.SiteValues.TheVariants.{Regular, Listed}
 use Rattle.reader.specs.Wants.{Fit, want_of, say_of, mark_text}
 use Rattle.reader.specs.Rows.{FaultAt, RowFault, Clean, named}
 use Rattle.reader.specs.Names.{code_names, regular_names, node_names, call_names, InOrder}
-use Rattle.reader.specs.Codes.{CodeFault, Word, CodeWords, CodeText, code_text}
-use Rattle.reader.specs.Listings.{NodesFault, node_text, NodesText, Places}
-use Rattle.reader.specs.Sites.{RegularFault, regular_text, SitePartFault, SiteText, SiteWords}
+use Rattle.reader.specs.Codes.{CodeFault, CodeText, code_text}
+use Rattle.reader.specs.Listings.{NodesFault, node_text, NodesText}
+use Rattle.reader.specs.Sites.{RegularFault, regular_text, SitePartFault, SiteText}
 use Rattle.reader.specs.Calls.{call_of, form_of, call_form, call_act, RestText, call_text}
-use Rattle.laws.specs.Backs.{SiteEnds, HeadReadsBack, OneCode, OneSite, AskedWords, CallReadsBack}
+use Rattle.reader.specs.Codes.{Word, CodeWords}
+use Rattle.reader.specs.Listings.{Places}
+use Rattle.laws.specs.Backs.{SiteWords, HeadReadsBack, OneCode, OneSite, AskedWords, CallReadsBack}
 use Rattle.reader.proofs.WantLaws.{no_such, letter-back}
 use Rattle.reader.proofs.RowLaws.{clean-same}
 use Rattle.reader.proofs.FieldLaws.{bytes_of, bytes-from}
@@ -144,13 +146,13 @@ listing-back n [] nodes table places (is, o, text) = absurd (none o.all o.fields
 listing-back n (l ∷ ls) nodes table places (is, o, text) =
     clean-same (NodesFault is (n + 1) 0 ls) (SitePartFault n (l ∷ ls)) (listed_same n l ls is o) (nodes-clean l is o (n + 1) 0 ls (take nodes table) (omega (arith, places.0)) places.1 text)
 
-site-back : (n : ℕ) (ls : List (List ℕ)) (s : SiteValues) (table : List Place) → SiteWords s table → SiteEnds s ls → SiteText ls s table → Clean (SitePartFault n ls)
-site-back n ls (Regular racks each) table words ends text = regular-back n ls racks each table words.0 words.1 ends text
-site-back n ls (Listed nodes) table words ends text = listing-back n ls nodes table words text
+site-back : (n : ℕ) (ls : List (List ℕ)) (s : SiteValues) (table : List Place) → SiteWords s ls table → SiteText ls s table → Clean (SitePartFault n ls)
+site-back n ls (Regular racks each) table words text = regular-back n ls racks each table words.0 words.1 words.2 text
+site-back n ls (Listed nodes) table words text = listing-back n ls nodes table words text
 
 pub head-back : HeadReadsBack
-head-back sheet code site table short long end words text words' ends text' f =
-    ⊎_elim (λ p. omega (arith, p.0)) (λ p. ⊎_elim (code-back 1 (lines_of sheet) code words long end text f) (λ q. site-back 4 (drop 3 (lines_of sheet)) site table words' ends text' f q.1) p.1)
+head-back sheet code site table short long end words text words' text' f =
+    ⊎_elim (λ p. omega (arith, p.0)) (λ p. ⊎_elim (code-back 1 (lines_of sheet) code words long end text f) (λ q. site-back 4 (drop 3 (lines_of sheet)) site table words' text' f q.1) p.1)
 
 same-mark : (m k : Mark) → mark_text m ≡ mark_text k → m ≡ k
 same-mark Yes Yes e = refl
@@ -158,7 +160,7 @@ same-mark Yes No e = absurd (omega (arith, ap (λ l. get_or l 0 0) e))
 same-mark No Yes e = absurd (omega (arith, ap (λ l. get_or l 0 0) e))
 same-mark No No e = refl
 
-pub same-places : (names is js : List ℕ) → InOrder node_names names is → InOrder node_names names js → (count : ℕ) (ls : List (List ℕ)) (ps qs : List Place) → All (λ p. p.0.0 < 32) ps → All (λ p. p.0.0 < 32) qs → NodesText is count ls ps → NodesText js count ls qs → ps ≡ qs
+same-places : (names is js : List ℕ) → InOrder node_names names is → InOrder node_names names js → (count : ℕ) (ls : List (List ℕ)) (ps qs : List Place) → All (λ p. p.0.0 < 32) ps → All (λ p. p.0.0 < 32) qs → NodesText is count ls ps → NodesText js count ls qs → ps ≡ qs
 same-places names is js o p count [] [] [] r s a b = refl
 same-places names is js o p count [] [] (y ∷ qs) r s a b = absurd b
 same-places names is js o p count [] (x ∷ ps) qs r s a b = absurd a

@@ -4,4 +4,3 @@ pub mod LeastFaults
 pub mod Wholes
 pub mod OneCall
 pub mod OneRun
-pub mod OneSheet

@@ -1,10 +1,13 @@
 -- A call's line is the text of one call at most.
-use Rattle.std.proofs.Common.{◌≡◌, ℕ, ◌<◌, ◌≤◌, List, [], ◌∷◌, map, Some, decimal, sym, refl, ap, ◌∙◌, subst, arith}
-use Rattle.std.specs.List.{AllByRecursion as All}
+use Rattle.std.proofs.Common.{◌≡◌, ℕ, ◌<◌, ◌≤◌, List, [], ◌∷◌, ◌++◌, map, Some, decimal, sym, refl, ap, ◌∙◌, subst, arith}
+use Rattle.std.specs.List.{flat_map, AllByRecursion as All}
+use Rattle.std.proofs.lemmas.Fmt.{decimal_nonempty}
+use Rattle.std.proofs.ByRecursion.{All-from_get_or}
 use Rattle.text.specs.NodeLists.{kept}
-use Rattle.text.specs.Pieces.{parted}
+use Rattle.text.specs.Pieces.{parted, glued}
 use Rattle.text.specs.Spaced.{spaced}
-use Rattle.text.proofs.NodeListExact.{parted-spaced}
+use Rattle.text.proofs.GlueLaws.{Free, parted-glued}
+use Rattle.text.proofs.NumberLaws.{all_digits}
 use Rattle.reader.specs.declared.calls.Asked.{Asked}
 use Rattle.reader.specs.declared.calls.Asked.TheVariants.{Offer, Seal, Plan, Deletions, Release, Abandon}
 use Rattle.reader.specs.Letters.{letter}
@@ -18,6 +21,25 @@ same_some : {A : Type 0} (x y : A) → Some x ≡ Some y → x ≡ y
 same_some x y e = cc
 
 -- node lists: the words of the text are the numbers' decimal texts
+further-glued : (vs : List ℕ) → flat_map (λ u. 32 ∷ decimal u) vs ≡ flat_map (λ q. 32 ∷ q) (map decimal vs)
+further-glued [] = refl
+further-glued (v ∷ vs) = ap (λ l. (32 ∷ decimal v) ++ l) (further-glued vs)
+
+spaced-glued : (vs : List ℕ) → spaced vs ≡ glued 32 (map decimal vs)
+spaced-glued [] = refl
+spaced-glued (v ∷ vs) = ap (λ l. decimal v ++ l) (further-glued vs)
+
+digits-free : (v : ℕ) → v ≤ 65535 → Free 32 (decimal v)
+digits-free v h = All-from_get_or (λ b. b ≡ 32 → ⊥) (decimal v) 0 (λ i l e. omega (arith, all_digits (decimal v) v (omega arith) refl i l))
+
+all-free : (vs : List ℕ) → All (λ v. v ≤ 65535) vs → All (Free 32) (map decimal vs)
+all-free [] h = tt
+all-free (v ∷ vs) h = (digits-free v h.0, all-free vs h.1)
+
+parted-spaced : (vs : List ℕ) → All (λ v. v ≤ 65535) vs → parted 32 (spaced vs) ≡ map decimal vs
+parted-spaced [] h = refl
+parted-spaced (v ∷ vs) h = ap (parted 32) (spaced-glued (v ∷ vs)) ∙ parted-glued 32 (decimal v) (map decimal vs) (decimal_nonempty v (omega (arith, h.0))) (digits-free v h.0) (all-free vs h.1)
+
 same-words : (vs ws : List ℕ) → All (λ v. v ≤ 65535) vs → All (λ v. v ≤ 65535) ws → map decimal vs ≡ map decimal ws → vs ≡ ws
 same-words [] [] p q e = refl
 same-words [] (w ∷ ws) p q e = let z : ◌≡◌ {A = ℕ} 0 1 = cc in absurd (omega arith)

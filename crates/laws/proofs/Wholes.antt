@@ -1,48 +1,59 @@
 -- The lines that a run gives are those of its sheet.
-use Rattle.std.proofs.Common.{◌≡◌, ℕ, ◌+◌, List, [], ◌∷◌, length, take, refl, ap, subst, inl, inr, arith}
+use Rattle.std.proofs.Common.{◌≡◌, ℕ, ◌+◌, ◌⊎◌, List, [], ◌∷◌, length, take, drop, Some, None, Ok, Err, sym, refl, ap, ◌∙◌, subst, inl, inr, arith}
 use Rattle.std.proofs.lemmas.List.{take_all}
 use Rattle.site.specs.Site.{Site, Place}
-use Rattle.site.specs.Maps.{listed}
+use Rattle.site.specs.Maps.{regular, listed, target}
+use Rattle.text.specs.declared.lines.Lines.{Lines}
+use Rattle.reader.specs.declared.code.CodeValues.{CodeValues}
+use Rattle.reader.specs.declared.head.Head.{Head}
 use Rattle.reader.specs.declared.maps.SiteKind.{SiteKind}
 use Rattle.reader.specs.declared.maps.SiteKind.TheVariants as kind
+use Rattle.reader.specs.declared.opening.Opening.{Opening}
 use Rattle.reader.specs.declared.opening.SiteFault.TheVariants.{Read, Refused}
 use Rattle.reader.specs.declared.sites.SiteValues.{SiteValues}
 use Rattle.reader.specs.declared.sites.SiteValues.TheVariants.{Regular, Listed}
-use Rattle.reader.specs.Sites.{SiteText, SiteWords}
+use Rattle.reader.specs.Sites.{SiteText}
 use Rattle.reader.specs.SiteMaps.{KindOf, NoMap, kind_meaning}
-use Rattle.reader.specs.Heads.{HeadFault}
+use Rattle.reader.specs.Heads.{HeadRead, HeadFault}
+use Rattle.reader.specs.Calls.{CallsRead}
 use Rattle.reader.specs.Rows.{Clean}
+use Rattle.store.specs.Stripes.{start}
+use Rattle.store.specs.Refusals.{refused_by}
+use Rattle.store.specs.Ledger.{ledger}
 use Rattle.sheet.specs.declared.run.Run.{Run}
+use Rattle.sheet.specs.declared.faults.RunFault.{RunFault}
 use Rattle.sheet.specs.declared.faults.RunFault.TheVariants as fault
 use Rattle.sheet.specs.Replies.{fault_text}
-use Rattle.sheet.specs.Said.{LinesSay}
-use Rattle.sheet.specs.Starts.{count_of}
-use Rattle.sheet.specs.Sheets.{LinesFor, SiteSaid, site_lines, calls_at, UnopenedTold, OpenedSays, UnbegunTold, WholeTold}
+use Rattle.sheet.specs.FaultTexts.{run_fault_text}
+use Rattle.sheet.specs.Said.{Said, LinesSay}
+use Rattle.sheet.specs.Runs.{lines_from}
+use Rattle.sheet.specs.Going.{Going}
+use Rattle.sheet.specs.Starts.{count_of, RunOpened, set_up_call, part_of, Begun}
+use Rattle.sheet.specs.Sheets.{LinesFor, SiteSaid, Says, site_lines, call_lines, calls_at, UnopenedTold, OpenedSays, UnbegunTold, WholeTold}
 
-no-map : (sheet : List ℕ) (site : SiteValues) (table : List Place) (line : ℕ) → Clean (HeadFault sheet) → SiteText (site_lines sheet) site table → SiteWords site table → NoMap site → line ≡ 5 → LinesFor sheet (fault_text 9 line 1 ∷ [])
-no-map sheet (Regular racks each) table line clean text words none five = inr (inl (racks, each, clean, (words.0, words.1, text), none, ap (λ (n : ℕ). fault_text 9 n 1 ∷ []) five))
-no-map sheet (Listed nodes) table line clean text words none five = absurd none
+no-map : (sheet : List ℕ) (site : SiteValues) (table : List Place) (line : ℕ) → Clean (HeadFault sheet) → SiteText (site_lines sheet) site table → NoMap site → line ≡ 5 → LinesFor sheet (fault_text 9 line 1 ∷ [])
+no-map sheet (Regular racks each) table line clean text none five = inr (inl (racks, each, clean, text, none, ap (λ (n : ℕ). fault_text 9 n 1 ∷ []) five))
+no-map sheet (Listed nodes) table line clean text none five = absurd none
 
 pub unopened-told : UnopenedTold
 unopened-told sheet was table lines (fault.Site (Read f)) h = inl (f, h, refl)
-unopened-told sheet was table lines (fault.Site (Refused o line)) h = no-map sheet h.0.site table line h.1.clean h.1.site h.1.site_words h.2 h.3
+unopened-told sheet was table lines (fault.Site (Refused o line)) h = no-map sheet h.0.site table line h.1.clean h.1.site h.2 h.3
 unopened-told sheet was table lines (fault.SetUp e) h = absurd h
 unopened-told sheet was table lines (fault.Calls f) h = absurd h
 
-site-said : (ls : List (List ℕ)) (site : SiteValues) (k : SiteKind) (table : List Place) → SiteText ls site table → SiteWords site table → KindOf site k → SiteSaid ls (kind_meaning k (listed (take (count_of site) table)))
-site-said ls (Regular racks each) (kind.Regular m) table text words h = inl (racks, each, (words.0, words.1, text), h.0, h.1)
-site-said ls (Regular racks each) kind.Listed table text words h = absurd h
-site-said ls (Listed nodes) (kind.Regular m) table text words h = absurd h
-site-said ls (Listed nodes) kind.Listed table text words h = inr (take nodes table, (words, text), refl)
+site-said : (ls : List (List ℕ)) (site : SiteValues) (k : SiteKind) (table : List Place) → SiteText ls site table → KindOf site k → SiteSaid ls (kind_meaning k (listed (take (count_of site) table)))
+site-said ls (Regular racks each) (kind.Regular m) table text h = inl (racks, each, text, h.0, h.1)
+site-said ls (Regular racks each) kind.Listed table text h = absurd h
+site-said ls (Listed nodes) (kind.Regular m) table text h = absurd h
+site-said ls (Listed nodes) kind.Listed table text h = inr (take nodes table, text, refl)
 
 pub opened-says : OpenedSays
 opened-says sheet was table lines o s h means = (
   record {
     clean = h.0.clean;
     code = h.0.code;
-    words = h.0.code_words;
     base = kind_meaning o.kind (listed (take (count_of o.head.site) table));
-    site = site-said (site_lines sheet) o.head.site o.kind table h.0.site h.0.site_words h.1;
+    site = site-said (site_lines sheet) o.head.site o.kind table h.0.site h.1;
     means = means;
   },
   h.0.calls,
@@ -50,9 +61,9 @@ opened-says sheet was table lines o s h means = (
 )
 
 pub unbegun-told : {M : Type 0} (run : Run M) → UnbegunTold run
-unbegun-told run sheet v s names (fault.Site f) says h = absurd h
-unbegun-told run sheet v s names (fault.SetUp e) says h = inr (inr (v, s, says, inl (_, h, refl)))
-unbegun-told run sheet v s names (fault.Calls f) says h = inr (inr (v, s, says, inr (h.0, inl (f, h.1, refl))))
+unbegun-told run sheet v s (fault.Site f) says h = absurd h
+unbegun-told run sheet v s (fault.SetUp e) says h = inr (inr (v, s, says, inl (_, h, refl)))
+unbegun-told run sheet v s (fault.Calls f) says h = inr (inr (v, s, says, inr (h.0, inl (f, h.1, refl))))
 
 pub whole-told : {M : Type 0} (run : Run M) → WholeTold run
 whole-told run sheet v s is after cs says read none going all =

@@ -10,18 +10,19 @@ use Rattle.reader.specs.declared.sites.SiteValues.{SiteValues}
 use Rattle.reader.specs.declared.sites.SiteValues.TheVariants.{Regular, Listed}
 use Rattle.reader.specs.Rows.{Clean}
 use Rattle.reader.specs.Codes.{Word, CodeWords, CodeText}
-use Rattle.reader.specs.Sites.{SiteText, SiteWords}
+use Rattle.reader.specs.Listings.{Places}
+use Rattle.reader.specs.Sites.{SiteText}
 use Rattle.reader.specs.Heads.{HeadFault}
 use Rattle.reader.specs.Calls.{CallFault, CallText, CallOrder}
 
--- the line that ends a regular site's part is empty or missing
-abbrev pub SiteEnds : SiteValues → List (List ℕ) → Type 0
-SiteEnds (Regular racks each) ls = slice_index_or ls 2 [] ≡ []
-SiteEnds (Listed nodes) ls = Unit {0}
+-- a site that a sheet can write, and the line that ends a regular site's part is empty or missing
+abbrev pub SiteWords : SiteValues → List (List ℕ) → List Place → Type 0
+SiteWords (Regular racks each) ls table = Word racks × Word each × (slice_index_or ls 2 [] ≡ [])
+SiteWords (Listed nodes) ls table = Places (take nodes table)
 
 abbrev pub HeadReadsBack : Type 0
 HeadReadsBack =
-    (sheet : List ℕ) (code : CodeValues) (site : SiteValues) (table : List Place) → length sheet ≤ 65536 → 3 ≤ length (lines_of sheet) → slice_index_or (lines_of sheet) 2 [] ≡ [] → CodeWords code → CodeText (lines_of sheet) code → SiteWords site table → SiteEnds site (drop 3 (lines_of sheet)) → SiteText (drop 3 (lines_of sheet)) site table → Clean (HeadFault sheet)
+    (sheet : List ℕ) (code : CodeValues) (site : SiteValues) (table : List Place) → length sheet ≤ 65536 → 3 ≤ length (lines_of sheet) → slice_index_or (lines_of sheet) 2 [] ≡ [] → CodeWords code → CodeText (lines_of sheet) code → SiteWords site (drop 3 (lines_of sheet)) table → SiteText (drop 3 (lines_of sheet)) site table → Clean (HeadFault sheet)
 
 -- lines say one code only
 abbrev pub OneCode : Type 0
@@ -37,7 +38,7 @@ SameSite (Listed nodes) table (Listed nodes') table' = take nodes table ≡ take
 -- and one site only
 abbrev pub OneSite : Type 0
 OneSite =
-    (ls : List (List ℕ)) (s t : SiteValues) (table table' : List Place) → SiteWords s table → SiteWords t table' → SiteText ls s table → SiteText ls t table' → SameSite s table t table'
+    (ls : List (List ℕ)) (s t : SiteValues) (table table' : List Place) → SiteWords s ls table → SiteWords t ls table' → SiteText ls s table → SiteText ls t table' → SameSite s table t table'
 
 -- a call whose numbers a line can write
 abbrev pub AskedWords : Asked → Type 0
