@@ -12,7 +12,7 @@ use Rattle.sheet.specs.Sheets.{Says, LinesFor, call_lines, calls_at}
 use Rattle.sheet.specs.Starts.{Begun, part_of, set_up_call}
 use Rattle.sheet.specs.declared.faults.RunFault.{RunFault}
 use Rattle.sheet.specs.declared.run.Run.{Run}
-use Rattle.sheet.proofs.Wholes.{unbegun-told, whole-told}
+use Rattle.laws.proofs.Wholes.{unbegun-told, whole-told}
 use Rattle.capi.specs.Sheets.{LinesPut, RunPut}
 
 -- a sheet with the one line of a fault

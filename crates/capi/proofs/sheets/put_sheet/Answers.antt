@@ -1,5 +1,5 @@
 use Rattle.std.proofs.Common.{arith}
-use Rattle.sheet.proofs.Wholes.{unopened-told, opened-says}
+use Rattle.laws.proofs.Wholes.{unopened-told, opened-says}
 use Rattle.capi.proofs.Told.{fault-put}
 use Rattle.capi.proofs.sheets.put_sheet.Goals as goal
 
