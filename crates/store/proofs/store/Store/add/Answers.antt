@@ -21,9 +21,9 @@ invariant_of-self g c =
     let st = c.args.self.now in
     let own = led.blocks_of (stripe_of (get_or st.stripes c.args.rack.0 c.index-self-rack-in-Ok.result)) in
     let p =
-        fits-put st c.args.rack.0 c.add.new.self
-        (allowed-filling st.code c.args.code c.add.new.self (own ++ held_of c.args.block ∷ []) c.requires.coded c.add.ensures
-        (omega (arith, length_push own (held_of c.args.block), c.requires.below, ap (λ x. length (led.blocks_of x)) (stripe-at st c.args.rack.0 c.requires.near c.index-self-rack-in-Ok.result)))) in
+    fits-put st c.args.rack.0 c.add.new.self
+    (allowed-filling st.code c.args.code c.add.new.self (own ++ held_of c.args.block ∷ []) c.requires.coded c.add.ensures
+    (omega (arith, length_push own (held_of c.args.block), c.requires.below, ap (λ x. length (led.blocks_of x)) (stripe-at st c.args.rack.0 c.requires.near c.index-self-rack-in-Ok.result)))) in
     record { full = p.0; within = p.1 }
 
 pub returns-in-Err : goal.returns-in-Err

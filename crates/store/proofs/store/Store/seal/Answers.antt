@@ -20,9 +20,9 @@ invariant_of-self g c =
     let same : length (led.blocks_of (stripe_of (get_or st.stripes r d))) ≡ length (helds_of c.in-Filling.blocks) =
     ap (λ x. length (led.blocks_of x)) (sym (stripe-at st r c.if-rack-ge-RACKS.false d) ∙ (stripe-at st r c.if-rack-ge-RACKS.false c.index-self-rack.result ∙ ap stripe_of c.in-Filling.is)) in
     let p =
-        fits-put st r c.seal.new.self
-        (allowed-sealed st.code c.in-Some.code c.seal.new.self _ _ c.in-Some.is c.seal.ensures
-        (omega (arith, few, same, helds-length c.in-Filling.blocks, c.len.ensures, c.k.ensures, c.if-len-k.false))) in
+    fits-put st r c.seal.new.self
+    (allowed-sealed st.code c.in-Some.code c.seal.new.self _ _ c.in-Some.is c.seal.ensures
+    (omega (arith, few, same, helds-length c.in-Filling.blocks, c.len.ensures, c.k.ensures, c.if-len-k.false))) in
     record { full = p.0; within = p.1 }
 
 pub returns-in-Empty : goal.returns-in-Empty
