@@ -160,7 +160,7 @@ same-mark Yes No e = absurd (omega (arith, ap (λ l. get_or l 0 0) e))
 same-mark No Yes e = absurd (omega (arith, ap (λ l. get_or l 0 0) e))
 same-mark No No e = refl
 
-same-places : (names is js : List ℕ) → InOrder node_names names is → InOrder node_names names js → (count : ℕ) (ls : List (List ℕ)) (ps qs : List Place) → All (λ p. p.0.0 < 32) ps → All (λ p. p.0.0 < 32) qs → NodesText is count ls ps → NodesText js count ls qs → ps ≡ qs
+pub same-places : (names is js : List ℕ) → InOrder node_names names is → InOrder node_names names js → (count : ℕ) (ls : List (List ℕ)) (ps qs : List Place) → All (λ p. p.0.0 < 32) ps → All (λ p. p.0.0 < 32) qs → NodesText is count ls ps → NodesText js count ls qs → ps ≡ qs
 same-places names is js o p count [] [] [] r s a b = refl
 same-places names is js o p count [] [] (y ∷ qs) r s a b = absurd b
 same-places names is js o p count [] (x ∷ ps) qs r s a b = absurd a

@@ -4,3 +4,5 @@ pub mod LeastFaults
 pub mod Wholes
 pub mod OneCall
 pub mod OneRun
+pub mod Sizes
+pub mod OneSheet

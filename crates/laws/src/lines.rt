@@ -3,6 +3,7 @@ ghost use Rattle.sheet.specs.Results.{CrowdLeast, AnswersOne};
 ghost use Rattle.sheet.specs.Runs.{PlanNamed, LinesNoted};
 ghost use Rattle.sheet.specs.Going.{LinesGrow};
 ghost use Rattle.sheet.specs.Sheets.{UnopenedTold, OpenedSays, UnbegunTold, WholeTold, ToldOne};
+ghost use Rattle.laws.specs.Lines.{LinesOne};
 
 use sheet::run::Run;
 use site::SiteMap;
@@ -73,6 +74,13 @@ pub fn whole_told<M: SiteMap>(run: &Run<'_, M>) -> u8
 /// A sheet's code, site and call lines leave one list of lines.
 pub fn told_one() -> u8
     ensures { ToldOne }
+{
+    0
+}
+
+/// A sheet's bytes alone leave one list of lines.
+pub fn lines_one() -> u8
+    ensures { LinesOne }
 {
     0
 }
