@@ -1,5 +1,5 @@
 // The start of a run: a sheet is opened, its store is made and set up, and the names of its calls are read.
-ghost use Rattle.std.specs.Prelude.{◌≡◌, take, Err};
+ghost use Rattle.std.specs.Prelude.{◌≡◌, [], ◌∷◌, take, Err};
 ghost use Rattle.site.specs.Maps.{target, listed};
 ghost use Rattle.text.specs.Rows.{left_of};
 ghost use Rattle.reader.specs.SiteMaps.{kind_meaning, map_meaning};
@@ -72,6 +72,7 @@ impl<'a, M: SiteMap> Run<'a, M> {
         ensures ledger { ledger_of result.store ≡ start }
         ensures left { left_of result.lines ≡ left_of lines.entry }
         ensures number { result.lines.number ≡ lines.entry.number }
+        ensures order { result.order ≡ 0 ∷ 1 ∷ 2 ∷ [] }
     {
         Run {
             lines,

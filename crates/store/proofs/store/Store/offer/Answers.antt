@@ -1,8 +1,9 @@
-use Rattle.std.proofs.Common.{◌≡◌, ℕ, ◌<◌, Bool, not, eqb, List, length, sym, ap, ◌∙◌, arith}
+use Rattle.std.proofs.Common.{◌≡◌, ℕ, ◌<◌, Bool, true, not, eqb, List, length, sym, ap, ◌∙◌, arith}
 use Rattle.site.specs.Site.{Site, node_rack}
 use Rattle.choices.specs.Choice.{every}
 use Rattle.blocks.specs.Blocks.{numbers}
 use Rattle.store.specs.Stripes as led
+use Rattle.store.specs.Refusals.{on_map}
 use Rattle.store.specs.Table.{held_of, stripe_of, ledger_of}
 use Rattle.store.proofs.Held.{stripe-at, helds-length}
 use Rattle.store.proofs.Fits.{sealed-full}
@@ -43,7 +44,8 @@ returns-then-not-all_differ g c =
     let b = c.args.number in
     let o = c.in-Some.code in
     let long = block-long c.in-Some-new.block ns c.in-Some-new.ensures.1 in
-    offer-twice s st b vs o c.in-Some.is long.0 long.1 (sym c.if-not-all_on_map.ensures) (sym c.if-not-all_differ.ensures)
+    let on : every (on_map s) vs ≡ true = cc in
+    offer-twice s st b vs o c.in-Some.is long.0 long.1 on (sym c.if-not-all_differ.ensures)
 
 pub returns-then-not-rest_outside : goal.returns-then-not-rest_outside
 returns-then-not-rest_outside g c =
