@@ -1,5 +1,5 @@
 -- Two values that say the same are the same.
-use Rattle.std.proofs.Common.{◌≡◌, ℕ, zero, suc, ◌+◌, ◌-◌, ◌<◌, ◌≤◌, List, [], ◌∷◌, ◌++◌, map, length, take, drop, replicate, sym, refl, ap, ◌∙◌, arith}
+use Rattle.std.proofs.Common.{◌≡◌, ℕ, ◌-◌, ◌≤◌, List, [], ◌∷◌, ◌++◌, map, length, take, drop, replicate, sym, refl, ap, ◌∙◌, arith}
 use denote.Struct.Record.{values_one}
 use Rattle.std.proofs.lemmas.List.{length-map, take-append-drop, map-append, length-take-le}
 use Rattle.site.specs.contracts.Node as node

@@ -5,7 +5,7 @@
 -- in any other, its blocks hold all of its nodes. So its reach is at most the number of its placed blocks.
 -- Closed: let all blocks but one be placed, and a set be crowded. By the bound it has that block, and its others fill its reach rack by rack;
 -- so it has the block that holds a node of its own, and every block of a rack where one of its nodes is free.
-use Rattle.std.proofs.Common.{◌≡◌, ℕ, ◌<◌, ◌≤◌, min, Bool, true, false, not, ◌&&◌, eqb, ◌⊎◌, Decides, sym, refl, ap, ◌∙◌, inl, inr, le_trans, arith}
+use Rattle.std.proofs.Common.{◌≡◌, ℕ, ◌<◌, ◌≤◌, min, Bool, true, false, ◌&&◌, eqb, ◌⊎◌, Decides, sym, refl, ap, ◌∙◌, inl, inr, le_trans, arith}
 use native.Mathlib.Nat.{le-min, min-le_left, min-le_right}
 use Rattle.std.proofs.lemmas.Bool.{cases_Bool, cases_lt, eqb-true, eq-eqb, and_parts, and_from, both_ways}
 use Rattle.std.proofs.lemmas.Bool.Decides.{Decides-below_or}

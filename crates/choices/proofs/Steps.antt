@@ -1,5 +1,5 @@
 -- The steps of the search's two loops: over the blocks that can give way to x at v, and over the nodes of x.
-use Rattle.std.proofs.Common.{◌≡◌, ℕ, ◌+◌, ◌^◌, ◌<◌, ◌≤◌, Bool, true, false, ◌⊎◌, sym, refl, ◌∙◌, subst, inl, inr, arith}
+use Rattle.std.proofs.Common.{◌≡◌, ℕ, ◌+◌, ◌^◌, ◌<◌, ◌≤◌, Bool, true, false, ◌⊎◌, sym, refl, subst, inl, inr, arith}
 use lib.Bits.{bit_or, or_lt, or_zero_l}
 use Rattle.std.proofs.lemmas.Bool.{cases_eq, cases_lt, cases_Bool, eqb-true, eq-eqb, both_ways, or_cases, or_left, or_right, or_from, ne_eqb}
 use Rattle.std.proofs.lemmas.Nat.{pow_below}

@@ -2,7 +2,6 @@
 use Rattle.std.proofs.Common.{◌≡◌, ℕ, true, List, map, length, Some, None, Option, sym, refl, ap, ◌∙◌, subst, arith}
 use mathlib.Core.Bool.{Bool-set}
 use native.Mathlib.Nat.{ℕ_set}
-use Rattle.blocks.specs.declared.block.Block.{Block}
 use Rattle.blocks.specs.declared.lists.Blocks.{Blocks}
 use Rattle.blocks.specs.declared.code.Code.{Code}
 use Rattle.blocks.specs.Lists.{blocks_of, node_numbers}

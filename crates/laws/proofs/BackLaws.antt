@@ -6,7 +6,6 @@ use Rattle.site.specs.Site.{Place}
 use Rattle.site.specs.declared.Mark.{Mark}
 use Rattle.site.specs.declared.Mark.TheVariants.{Yes, No}
 use Rattle.text.specs.Cells.{Cell, cells}
-use Rattle.text.specs.Faults.{at}
 use Rattle.text.specs.Orders.{elem, Apart}
 use Rattle.text.specs.Pieces.{parted, lines_of}
 use Rattle.reader.specs.declared.calls.Asked.{Asked}

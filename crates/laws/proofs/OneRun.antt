@@ -1,21 +1,18 @@
 -- For the code and site of a sheet there is one list of lines.
-use Rattle.std.proofs.Common.{◌≡◌, ℕ, ◌+◌, ◌⊎◌, List, [], ◌∷◌, length, Some, None, Ok, Err, Option, sym, refl, ap, ◌∙◌, subst, inl, inr, arith}
+use Rattle.std.proofs.Common.{◌≡◌, ℕ, ◌+◌, List, [], ◌∷◌, Some, None, Ok, Err, sym, refl, ap, ◌∙◌, subst, inl, inr, arith}
 use Rattle.site.specs.Site.{Site}
-use Rattle.text.specs.Faults.{Least}
 use Rattle.text.specs.declared.fault.Fault.{Fault}
 use Rattle.reader.specs.declared.code.CodeValues.{CodeValues}
-use Rattle.reader.specs.Names.{InOrder, call_names}
+use Rattle.reader.specs.Names.{call_names}
 use Rattle.reader.specs.Calls.{CallFault, CallsFault, CallsRead, CallOrder}
 use Rattle.reader.proofs.NameLaws.{one-order, call-apart}
-use Rattle.store.specs.Stripes.{start}
-use Rattle.store.specs.Refusals.{refused_by}
 use Rattle.store.specs.Ledger.{ledger}
 use Rattle.sheet.specs.Replies.{fault_text}
 use Rattle.sheet.specs.FaultTexts.{fault_line}
 use Rattle.sheet.specs.Said.{Said, LineSays, LinesSay}
 use Rattle.sheet.specs.Runs.{lines_from}
 use Rattle.sheet.specs.Starts.{set_up_call}
-use Rattle.sheet.specs.Sheets.{call_lines, calls_at, CallsTold, StoreTold, ToldOne}
+use Rattle.sheet.specs.Sheets.{call_lines, calls_at, CallsTold, ToldOne}
 use Rattle.laws.proofs.LeastFaults.{least-one}
 use Rattle.laws.proofs.OneCall.{one-call}
 

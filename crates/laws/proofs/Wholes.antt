@@ -1,35 +1,23 @@
 -- The lines that a run gives are those of its sheet.
-use Rattle.std.proofs.Common.{◌≡◌, ℕ, ◌+◌, ◌⊎◌, List, [], ◌∷◌, length, take, drop, Some, None, Ok, Err, sym, refl, ap, ◌∙◌, subst, inl, inr, arith}
+use Rattle.std.proofs.Common.{◌≡◌, ℕ, ◌+◌, List, [], ◌∷◌, length, take, refl, ap, subst, inl, inr, arith}
 use Rattle.std.proofs.lemmas.List.{take_all}
-use Rattle.site.specs.Site.{Site, Place}
-use Rattle.site.specs.Maps.{regular, listed, target}
-use Rattle.text.specs.declared.lines.Lines.{Lines}
-use Rattle.reader.specs.declared.code.CodeValues.{CodeValues}
-use Rattle.reader.specs.declared.head.Head.{Head}
+use Rattle.site.specs.Site.{Place}
+use Rattle.site.specs.Maps.{listed}
 use Rattle.reader.specs.declared.maps.SiteKind.{SiteKind}
 use Rattle.reader.specs.declared.maps.SiteKind.TheVariants as kind
-use Rattle.reader.specs.declared.opening.Opening.{Opening}
 use Rattle.reader.specs.declared.opening.SiteFault.TheVariants.{Read, Refused}
 use Rattle.reader.specs.declared.sites.SiteValues.{SiteValues}
 use Rattle.reader.specs.declared.sites.SiteValues.TheVariants.{Regular, Listed}
 use Rattle.reader.specs.Sites.{SiteText}
 use Rattle.reader.specs.SiteMaps.{KindOf, NoMap, kind_meaning}
-use Rattle.reader.specs.Heads.{HeadRead, HeadFault}
-use Rattle.reader.specs.Calls.{CallsRead}
+use Rattle.reader.specs.Heads.{HeadFault}
 use Rattle.reader.specs.Rows.{Clean}
-use Rattle.store.specs.Stripes.{start}
-use Rattle.store.specs.Refusals.{refused_by}
-use Rattle.store.specs.Ledger.{ledger}
 use Rattle.sheet.specs.declared.run.Run.{Run}
-use Rattle.sheet.specs.declared.faults.RunFault.{RunFault}
 use Rattle.sheet.specs.declared.faults.RunFault.TheVariants as fault
 use Rattle.sheet.specs.Replies.{fault_text}
-use Rattle.sheet.specs.FaultTexts.{run_fault_text}
-use Rattle.sheet.specs.Said.{Said, LinesSay}
-use Rattle.sheet.specs.Runs.{lines_from}
-use Rattle.sheet.specs.Going.{Going}
-use Rattle.sheet.specs.Starts.{count_of, RunOpened, set_up_call, part_of, Begun}
-use Rattle.sheet.specs.Sheets.{LinesFor, SiteSaid, Says, site_lines, call_lines, calls_at, UnopenedTold, OpenedSays, UnbegunTold, WholeTold}
+use Rattle.sheet.specs.Said.{LinesSay}
+use Rattle.sheet.specs.Starts.{count_of}
+use Rattle.sheet.specs.Sheets.{LinesFor, SiteSaid, site_lines, calls_at, UnopenedTold, OpenedSays, UnbegunTold, WholeTold}
 
 no-map : (sheet : List ℕ) (site : SiteValues) (table : List Place) (line : ℕ) → Clean (HeadFault sheet) → SiteText (site_lines sheet) site table → NoMap site → line ≡ 5 → LinesFor sheet (fault_text 9 line 1 ∷ [])
 no-map sheet (Regular racks each) table line clean text none five = inr (inl (racks, each, clean, text, none, ap (λ (n : ℕ). fault_text 9 n 1 ∷ []) five))

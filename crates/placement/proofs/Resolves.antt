@@ -1,5 +1,5 @@
 -- Lists resolved to seats: one node more, one list more, and what the seats then tell of the site.
-use Rattle.std.proofs.Common.{◌≡◌, ℕ, zero, suc, ◌+◌, ◌<◌, ◌≤◌, Bool, true, false, ◌&&◌, eqb, List, [], ◌∷◌, ◌++◌, map, length, get_or, take, set, filter, sym, refl, ap, ◌∙◌, subst, inl, inr, arith}
+use Rattle.std.proofs.Common.{◌≡◌, ℕ, zero, suc, ◌+◌, ◌<◌, ◌≤◌, Bool, true, eqb, List, [], ◌∷◌, ◌++◌, map, length, get_or, take, set, filter, sym, refl, ap, ◌∙◌, subst, inl, inr, arith}
 use Rattle.std.proofs.lemmas.List.{map-append, map-set, length-map, take_more, get_or-map, get_or-take, get_or_append_left, length-take-le, map_push}
 use Rattle.std.proofs.lemmas.List.Elements.{filter-append}
 use Rattle.std.proofs.lemmas.Bool.{and_parts, and_from, cases_Bool, or_cases, eqb-true, false≢true}
@@ -14,7 +14,7 @@ use Rattle.blocks.specs.declared.block.Block.{Block}
 use Rattle.placement.specs.declared.seat.Seat.{Seat}
 use Rattle.placement.specs.declared.seat.Seats.{Seats}
 use Rattle.blocks.specs.Blocks.{copies_of, numbers}
-use Rattle.placement.specs.Seats.{seats_of, node_at, rack_at, Sits}
+use Rattle.placement.specs.Seats.{seats_of, Sits}
 use Rattle.placement.specs.Resolved.{seat_at, seated, lists_in, Resolved, Seating}
 
 -- one listed node more

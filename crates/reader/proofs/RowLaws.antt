@@ -10,7 +10,6 @@ use Rattle.text.specs.declared.token.Token.TheVariants as token
 use Rattle.text.specs.declared.fault.Fault.{Fault}
 use Rattle.text.specs.declared.fault.FaultKind.{FaultKind}
 use Rattle.text.specs.declared.fault.FaultKind.TheVariants.{Count}
-use Rattle.text.specs.declared.fault.FaultKind.TheVariants as kind
 use Rattle.text.proofs.GlueLaws.{glued-pieces}
 use Rattle.text.proofs.PieceLaws.{pieces_are}
 use Rattle.text.proofs.NumberLaws.{not-empty}

@@ -1,8 +1,8 @@
 -- A store's answer, told by the ledger alone.
-use Rattle.std.proofs.Common.{◌≡◌, ℕ, zero, suc, ◌<◌, ◌≤◌, Bool, true, false, cond, not, ◌||◌, eqb, ltb, leb, List, [], ◌∷◌, ◌++◌, map, length, take, drop, Some, None, Ok, Err, decimal, Option, Result, sym, refl, ap, ◌∙◌, subst, inl, inr, arith}
+use Rattle.std.proofs.Common.{◌≡◌, ℕ, ◌<◌, ◌≤◌, Bool, true, false, not, ◌||◌, eqb, ltb, leb, List, [], ◌∷◌, ◌++◌, map, length, take, drop, Some, None, Ok, Err, decimal, Option, Result, sym, refl, ap, ◌∙◌, subst, arith}
 use Rattle.std.specs.List.{ContainsAt as Has, AllByRecursion as All}
 use Rattle.std.proofs.lemmas.List.{take_all, take_at}
-use Rattle.std.proofs.lemmas.Bool.{cases_Bool, true≢false, both_ways, or_parts, not-false, ltb-true, ltb-false, leb-false, and_parts, not-true, eqb-false, eq-eqb, or_left, or_right}
+use Rattle.std.proofs.lemmas.Bool.{true≢false, both_ways, or_parts, not-false, ltb-true, ltb-false, leb-false, and_parts, not-true, eqb-false, eq-eqb, or_left, or_right}
 use Rattle.site.specs.Site.{Site, node_rack}
 use Rattle.choices.specs.Choice.{Copies, Choice, has, apart, every, choices}
 use Rattle.choices.proofs.Exact.{choices-exact}
@@ -10,11 +10,11 @@ use Rattle.store.specs.declared.types.Row.{Row}
 use Rattle.store.specs.declared.types.Answer.{Answer}
 use Rattle.store.specs.declared.types.Refusal.{Refusal}
 use Rattle.store.specs.declared.types.Refusal.TheVariants.{OutsideLimits, SpaceBelowN, ListLength, OffMap, NodeTwice, CoreRackAgain, NoSuchRack, NotSetUp, SetUpBefore, BlockHeld, StripeFull, NoChoice, StripeBelowK, Sealed, NotSealed, StripeEmpty, FewRows}
-use Rattle.store.specs.Stripes.{Code, Ledger, Call, set_up, offer, seal, plan, deletions, standing, release, abandon, blocks_of, stripe, copies_of, holds, core, rest}
+use Rattle.store.specs.Stripes.{Code, Ledger, Call, set_up, offer, seal, plan, deletions, standing, release, abandon, blocks_of, stripe, holds, core, rest}
 use Rattle.store.specs.Refusals.{number_of, none, first, on_map, checks, fresh, refused_by}
 use Rattle.store.specs.Ledger.{ledger}
 use Rattle.store.specs.Answers.{Line, shown, accepted, written, Answered}
-use Rattle.store.specs.Promise.{WellFormed, Due, Kept, Promised, together}
+use Rattle.store.specs.Promise.{Due, Kept, together}
 use Rattle.store.specs.Told.{Since}
 use Rattle.text.specs.Texts.{whole}
 use Rattle.sheet.specs.Said.{first_of}

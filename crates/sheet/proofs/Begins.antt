@@ -1,28 +1,25 @@
 -- A run that has just begun.
-use Rattle.std.proofs.Common.{◌≡◌, ℕ, ◌+◌, ◌≤◌, true, is_err, IsErrAnd, List, [], ◌∷◌, ◌++◌, map, Some, None, Ok, Err, Option, Result, sym, refl, ap, ◌∙◌, subst, arith}
+use Rattle.std.proofs.Common.{◌≡◌, ℕ, ◌+◌, true, is_err, IsErrAnd, List, [], ◌∷◌, Some, None, Ok, Err, Option, Result, sym, refl, ap, ◌∙◌, subst, arith}
 use Rattle.std.proofs.lemmas.Bool.{true≢false}
 use Rattle.site.specs.Site.{Site}
-use Rattle.text.specs.Faults.{Least}
 use Rattle.text.specs.Rows.{left_of}
-use Rattle.text.specs.declared.fault.Fault.{Fault}
 use Rattle.text.specs.declared.lines.Lines.{Lines}
 use Rattle.reader.specs.declared.code.CodeValues.{CodeValues}
-use Rattle.reader.specs.Names.{InOrder, call_names}
-use Rattle.reader.specs.Calls.{CallsFault, CallsRead, CallOrder}
+use Rattle.reader.specs.Calls.{CallsRead, CallOrder}
 use Rattle.store.specs.declared.store.Store.{Store}
 use Rattle.store.specs.declared.types.Row.{Row}
 use Rattle.store.specs.declared.types.Answer.{Answer}
 use Rattle.store.specs.declared.types.Refusal.{Refusal}
-use Rattle.store.specs.Stripes.{Code, Ledger, Call, start}
+use Rattle.store.specs.Stripes.{Ledger, Call, start}
 use Rattle.store.specs.Refusals.{number_of, refused_by}
-use Rattle.store.specs.Ledger.{step, ledger, code_noted}
-use Rattle.store.specs.Answers.{shown, accepted, written, Answered}
+use Rattle.store.specs.Ledger.{step, code_noted}
+use Rattle.store.specs.Answers.{Answered}
 use Rattle.store.specs.Table.{ledger_of}
 use Rattle.store.specs.Told.{Since}
 use Rattle.sheet.specs.declared.run.Run.{Run}
 use Rattle.sheet.specs.declared.faults.RunFault.{RunFault}
 use Rattle.sheet.specs.declared.faults.RunFault.TheVariants as fault
-use Rattle.sheet.specs.Going.{Part, Going}
+use Rattle.sheet.specs.Going.{Going}
 use Rattle.sheet.specs.Starts.{set_up_call, part_of, Begun}
 use Rattle.sheet.proofs.Answering.{AnsweredWith}
 

@@ -1,5 +1,5 @@
 -- The positions of a set, counted from its word.
-use Rattle.std.proofs.Common.{◌≡◌, ℕ, zero, suc, ◌+◌, ◌-◌, ◌^◌, ◌<◌, ◌≤◌, Bool, true, false, cond, eqb, List, [], ◌∷◌, ◌++◌, length, get_or, take, set, filter, sym, refl, ap, ◌∙◌, ap₂, add-one, arith}
+use Rattle.std.proofs.Common.{◌≡◌, ℕ, zero, suc, ◌+◌, ◌-◌, ◌^◌, ◌<◌, ◌≤◌, Bool, true, false, cond, List, [], ◌∷◌, ◌++◌, length, take, set, filter, sym, refl, ap, ◌∙◌, add-one, arith}
 use native.Mathlib.Nat.{min-le_left}
 use lib.Count.{ones}
 use Rattle.std.specs.List.{range_with_len, AllByRecursion as All}

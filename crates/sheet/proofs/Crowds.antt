@@ -1,5 +1,5 @@
 -- The least tight set has the lowest tight word.
-use Rattle.std.proofs.Common.{◌≡◌, ℕ, zero, suc, ◌+◌, ◌/◌, ◌%◌, ◌^◌, ◌<◌, ◌≤◌, Bool, true, false, cond, eqb, ltb, List, length, sym, refl, ap, ◌∙◌, inl, inr, div-one, add-one, one-add, arith}
+use Rattle.std.proofs.Common.{◌≡◌, ℕ, zero, suc, ◌+◌, ◌/◌, ◌%◌, ◌^◌, ◌<◌, ◌≤◌, Bool, true, eqb, List, length, sym, ap, ◌∙◌, inl, inr, div-one, add-one, one-add, arith}
 use lib.Arith.{lt-one}
 use lib.Count.{ones}
 use Rattle.std.proofs.lemmas.Nat.{shr-shr, shr_split, shr_below, mod_below}

@@ -1,12 +1,11 @@
 -- A long list of nodes, cut to nine.
-use Rattle.std.proofs.Common.{◌≡◌, ℕ, zero, suc, ◌+◌, ◌<◌, ◌≤◌, List, [], ◌∷◌, ◌++◌, map, length, get_or, take, drop, set, replicate, Some, Ok, Err, sym, refl, ap, ◌∙◌, subst, inl, inr, arith, length-append, length-take}
-use native.Mathlib.Nat.{min-le_left, le-min}
+use Rattle.std.proofs.Common.{◌≡◌, ℕ, zero, suc, ◌<◌, ◌≤◌, List, [], ◌∷◌, ◌++◌, length, get_or, take, drop, set, Some, Ok, sym, refl, ap, ◌∙◌, subst, inl, inr, arith, length-append, length-take}
+use native.Mathlib.Nat.{le-min}
 use Rattle.std.proofs.lemmas.Bool.{cases_lt}
 use Rattle.site.specs.Site.{Site}
 use Rattle.text.specs.NodeLists.{padded, kept}
 use Rattle.text.specs.declared.nodes.NodeList.{NodeList}
 use Rattle.text.specs.Texts.{whole}
-use Rattle.store.specs.declared.types.Refusal.TheVariants.{ListLength}
 use Rattle.store.specs.Stripes.{Code, Ledger, Call, offer}
 use Rattle.store.specs.Ledger.{ledger}
 use Rattle.sheet.specs.Replies.{reply_text}

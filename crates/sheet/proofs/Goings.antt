@@ -1,30 +1,24 @@
 -- A run that has come so far, and one line further.
-use Rattle.std.proofs.Common.{◌≡◌, ℕ, zero, suc, ◌+◌, ◌<◌, ◌≤◌, Bool, true, false, cond, List, [], ◌∷◌, ◌++◌, map, length, take, drop, Some, None, Ok, Err, decimal, Option, Result, sym, refl, ap, ◌∙◌, subst, append_assoc, append-nil, arith, length-append}
-use Rattle.std.proofs.lemmas.List.{take_all, drop_all, length_push, length-drop}
+use Rattle.std.proofs.Common.{◌≡◌, ℕ, zero, suc, ◌+◌, ◌≤◌, List, [], ◌∷◌, ◌++◌, map, length, take, drop, Some, None, Ok, Err, Option, sym, refl, ap, ◌∙◌, subst, append_assoc, arith}
+use Rattle.std.proofs.lemmas.List.{length_push, length-drop}
 use Rattle.site.specs.Site.{Site}
-use Rattle.text.specs.Faults.{Least}
-use Rattle.text.specs.Pieces.{parted}
-use Rattle.text.specs.Spaced.{spaced}
 use Rattle.text.specs.Rows.{left_of, NextLine}
-use Rattle.text.specs.Texts.{whole}
 use Rattle.text.specs.declared.fault.Fault.{Fault}
 use Rattle.text.specs.declared.lines.Line.{Line}
 use Rattle.text.specs.declared.lines.Lines.{Lines}
 use Rattle.reader.specs.declared.calls.Asked.{Asked}
 use Rattle.reader.specs.declared.calls.Asked.TheVariants.{Offer, Seal, Plan, Deletions, Release, Abandon}
-use Rattle.reader.specs.declared.calls.CallLine.{CallLine}
-use Rattle.reader.specs.Calls.{CallFault, CallOrder, CallRead, CallText, RestText, call_text}
+use Rattle.reader.specs.Calls.{CallOrder, CallRead, call_text}
 use Rattle.store.specs.declared.store.Store.{Store}
 use Rattle.store.specs.Stripes.{Code, Ledger, Call, set_up, offer, seal, plan, deletions, standing, release, abandon}
 use Rattle.store.specs.Refusals.{refused_by}
 use Rattle.store.specs.Ledger.{step, ledger, noted, code_noted}
 use Rattle.store.specs.Table.{ledger_of}
 use Rattle.sheet.specs.declared.run.Run.{Run}
-use Rattle.sheet.specs.Said.{Said, Writes, field_text, Stands, Low, LineSays, LinesSay}
-use Rattle.sheet.specs.FaultTexts.{fault_line}
-use Rattle.sheet.specs.Runs.{line_for, lines_from, calls_in, Lined}
+use Rattle.sheet.specs.Said.{Said, Stands, Low, LineSays, LinesSay}
+use Rattle.sheet.specs.Runs.{line_for, lines_from, calls_in}
 use Rattle.sheet.specs.Going.{Part, Going, line_after}
-use Rattle.sheet.proofs.Lines.{ledger-more, calls-append, lines-append, lines_noted}
+use Rattle.sheet.proofs.Lines.{calls-append, lines-append, lines_noted}
 
 -- the code stays
 

@@ -1,15 +1,15 @@
 -- The lines of a run, one more at a time.
-use Rattle.std.proofs.Common.{◌≡◌, ℕ, zero, suc, ◌<◌, ◌≤◌, Bool, true, false, ◌||◌, ltb, List, [], ◌∷◌, ◌++◌, map, length, take, drop, Some, None, Ok, Err, decimal, fold, Option, Result, sym, refl, ap, ◌∙◌, subst, append_assoc, append-nil, arith, take-append-drop}
+use Rattle.std.proofs.Common.{◌≡◌, ℕ, suc, ◌<◌, ◌||◌, ltb, List, [], ◌∷◌, ◌++◌, length, take, drop, Some, None, Ok, Err, decimal, fold, Option, sym, refl, ap, ◌∙◌, append_assoc, append-nil, take-append-drop}
 use Rattle.std.specs.List.{flat_map}
 use Rattle.std.proofs.lemmas.Bool.{lt-ltb, or_right, cond-true}
-use Rattle.site.specs.Site.{Site, node_rack}
+use Rattle.site.specs.Site.{Site}
 use Rattle.text.specs.Spaced.{spaced}
 use Rattle.store.specs.declared.types.Refusal.TheVariants.{ListLength}
 use Rattle.store.specs.Stripes.{Block, Code, Ledger, Call, offer, start}
 use Rattle.store.specs.Refusals.{first, checks, refused_by}
 use Rattle.store.specs.Ledger.{step, ledger, noted, code_noted}
-use Rattle.store.specs.Answers.{Line, accepted, data_rows, parity_rows, plan_rows, written}
-use Rattle.sheet.specs.Replies.{row_text, further_text, rows_text, reply_text}
+use Rattle.store.specs.Answers.{Line, accepted, data_rows, parity_rows, plan_rows}
+use Rattle.sheet.specs.Replies.{row_text, further_text, rows_text}
 use Rattle.sheet.specs.Results.{refusal_of, crowd_of, answer_of}
 use Rattle.sheet.specs.Said.{Said}
 use Rattle.sheet.specs.Runs.{line_for, note_line, lines_from, calls_in}

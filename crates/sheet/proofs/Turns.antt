@@ -1,5 +1,5 @@
 -- The next line of a run, as the calls that it makes give it.
-use Rattle.std.proofs.Common.{◌≡◌, ℕ, ◌+◌, ◌<◌, ◌≤◌, List, [], ◌∷◌, ◌++◌, length, take, drop, Some, None, Ok, Err, sym, refl, ap, ◌∙◌, subst, arith}
+use Rattle.std.proofs.Common.{◌≡◌, ℕ, ◌≤◌, List, [], ◌∷◌, ◌++◌, length, take, drop, Some, None, Ok, Err, sym, refl, ap, ◌∙◌, subst, arith}
 use Rattle.std.proofs.lemmas.List.{take_all}
 use Rattle.site.specs.Site.{Site}
 use Rattle.text.specs.Faults.{Least}
@@ -15,10 +15,10 @@ use Rattle.store.specs.Stripes.{Code, Call}
 use Rattle.store.specs.Ledger.{ledger}
 use Rattle.store.specs.Table.{ledger_of}
 use Rattle.sheet.specs.declared.run.Run.{Run}
-use Rattle.sheet.specs.Said.{Said, Stands, Low, LineSays}
+use Rattle.sheet.specs.Said.{Stands, Low}
 use Rattle.sheet.specs.FaultTexts.{fault_line}
-use Rattle.sheet.specs.Runs.{line_for, calls_in, Lined}
-use Rattle.sheet.specs.Going.{Part, Going, Given, Ended, line_after}
+use Rattle.sheet.specs.Runs.{calls_in, Lined}
+use Rattle.sheet.specs.Going.{Given, Ended, line_after}
 use Rattle.sheet.proofs.Lines.{ledger-more}
 use Rattle.sheet.proofs.Goings.{Next, says-call, code_stays, ledger-call, ledger-fault, going_more, going-ended}
 

@@ -1,5 +1,5 @@
 -- The lines that a run answers, byte for byte.
-use Rattle.std.specs.Prelude.{ℕ, ◌-◌, Bool, cond, List, [], ◌∷◌, ◌++◌, map, take, Ok, Err, codes, decimal, filter, Result, ◌==◌}
+use Rattle.std.specs.Prelude.{ℕ, ◌-◌, cond, List, [], ◌∷◌, ◌++◌, take, Ok, Err, codes, decimal, filter, Result, ◌==◌}
 use Rattle.std.specs.List.{range_with_len}
 use Rattle.site.specs.Words.{member}
 use Rattle.text.specs.Spaced.{spaced}

@@ -1,5 +1,5 @@
 -- The lines of a sheet, from its bytes alone.
-use Rattle.std.specs.Prelude.{◌≡◌, ℕ, ◌+◌, ◌⊎◌, List, [], ◌∷◌, length, take, drop, Some, None, Ok, Err, Result, slice_index_or}
+use Rattle.std.specs.Prelude.{◌≡◌, ℕ, ◌+◌, ◌⊎◌, List, [], ◌∷◌, length, take, drop, Some, None, Ok, Err, slice_index_or}
 use Rattle.site.specs.Site.{Site, Place}
 use Rattle.site.specs.Maps.{Fit, regular, listed, target}
 use Rattle.text.specs.Faults.{Least}

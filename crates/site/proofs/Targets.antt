@@ -1,12 +1,12 @@
 -- Target maps over one another, and the one whose targets are all racks.
-use Rattle.std.proofs.Common.{◌≡◌, ℕ, zero, suc, ◌/◌, ◌%◌, ◌^◌, ◌<◌, ◌≤◌, Bool, true, false, ◌&&◌, eqb, List, [], ◌∷◌, map, sym, refl, ap, ◌∙◌, ap₂, inl, inr, arith}
+use Rattle.std.proofs.Common.{◌≡◌, ℕ, zero, suc, ◌/◌, ◌%◌, ◌^◌, ◌<◌, Bool, true, false, ◌&&◌, eqb, [], ◌∷◌, sym, refl, ap, ◌∙◌, ap₂, inl, inr, arith}
 use lib.Bits.{bit_and, and_shr, and_mod}
 use Rattle.std.specs.List.{AllByRecursion as All}
 use Rattle.std.proofs.lemmas.Nat.{mod_below}
 use Rattle.std.proofs.lemmas.Bool.{cases_eq, and_parts}
 use Rattle.site.specs.declared.Mark.{Mark}
 use Rattle.site.specs.Words.{member}
-use Rattle.site.specs.Site.{Site, Place}
+use Rattle.site.specs.Site.{Site}
 use Rattle.site.specs.Maps.{marked, targeted, target}
 
 -- bit i of two words and-ed

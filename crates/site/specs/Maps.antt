@@ -1,7 +1,6 @@
 -- The meanings of the three maps.
 use Rattle.std.specs.Prelude.{ℕ, zero, suc, ◌*◌, ◌/◌, ◌≤◌, Bool, true, false, cond, List, [], ◌∷◌, map, nat_lt}
 use Rattle.std.specs.List.{range_with_len}
-use Rattle.site.specs.declared.Rack.{Rack}
 use Rattle.site.specs.declared.Mark.{Mark}
 use Rattle.site.specs.declared.Mark.TheVariants.{Yes, No}
 use Rattle.site.specs.Words.{member}

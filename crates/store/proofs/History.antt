@@ -1,5 +1,5 @@
 -- From what each call tells to what is told after any list of calls.
-use Rattle.std.proofs.Common.{◌≡◌, ℕ, suc, ◌+◌, ◌-◌, ◌<◌, ◌≤◌, Bool, true, false, cond, not, ◌||◌, eqb, List, [], ◌∷◌, ◌++◌, map, length, get_or, drop, Some, None, Ok, Err, sum_by, filter, Option, Result, sym, refl, ap, ◌∙◌, subst, ⊎_elim, arith}
+use Rattle.std.proofs.Common.{◌≡◌, ℕ, suc, ◌-◌, ◌<◌, ◌≤◌, Bool, true, false, cond, not, ◌||◌, eqb, List, [], ◌∷◌, ◌++◌, map, length, get_or, drop, Some, None, Ok, Err, sum_by, filter, Option, Result, sym, refl, ap, ◌∙◌, subst, ⊎_elim, arith}
 use Rattle.std.specs.List.{ContainsAt as Has}
 use Rattle.std.proofs.lemmas.List.{length-map, length-append, get_or_append_left}
 use Rattle.std.proofs.ByRecursion.{has_get_or}
@@ -24,7 +24,7 @@ use Rattle.store.specs.Table.{ledger_of, call_of}
 use Rattle.store.proofs.Tells.{coded, uncoded}
 use Rattle.store.proofs.Written.{plan-length}
 use Rattle.store.proofs.Sound.{Sound, unmet, ledger-sound}
-use Rattle.store.proofs.Keeps.{kept, at, whole, shut}
+use Rattle.store.proofs.Keeps.{kept, whole, shut}
 
 kept_less : (v : ℕ) (xs : List ℕ) → length (filter (λ w. not (eqb w v)) xs) ≤ length xs
 kept_less v [] = omega arith

@@ -5,7 +5,7 @@ use Rattle.std.specs.List.{AllByRecursion as All}
 use Rattle.std.proofs.lemmas.List.{get_or_past, length-map}
 use Rattle.std.proofs.lemmas.Bool.{lt-ltb, le-ltb, lt-leb, ne_eqb, or_from, and_from, cases_lt}
 use Rattle.site.specs.Site.{Site, Limits, node_rack}
-use Rattle.choices.specs.Choice.{Copies, Choice, has, every, choices}
+use Rattle.choices.specs.Choice.{Copies, Choice, every, choices}
 use Rattle.choices.specs.Tight.{LeastTight}
 use Rattle.choices.specs.Survive.{stand, distinct}
 use Rattle.choices.proofs.Head.{empty-none, none-empty}

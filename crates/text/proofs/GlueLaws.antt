@@ -1,9 +1,9 @@
 -- Pieces put together again are the text; and a text put together from pieces without separators has those pieces.
-use Rattle.std.proofs.Common.{◌≡◌, ℕ, ◌<◌, Bool, true, false, cond, eqb, List, [], ◌∷◌, ◌++◌, length, sym, refl, ap, ◌∙◌, append-nil, arith}
+use Rattle.std.proofs.Common.{◌≡◌, ℕ, ◌<◌, true, false, cond, eqb, List, [], ◌∷◌, ◌++◌, length, sym, refl, ap, ◌∙◌, append-nil, arith}
 use Rattle.std.specs.List.{flat_map, AllByRecursion as All}
 use Rattle.std.proofs.lemmas.Bool.{eqb-true, eq-eqb, ne_eqb}
 use Rattle.text.specs.Pieces.{pieces, parted, onto, glued}
-use Rattle.text.proofs.PieceLaws.{pieces_are, parted-some}
+use Rattle.text.proofs.PieceLaws.{pieces_are}
 
 glued-onto : (sep b : ℕ) (ps : List (List ℕ)) → glued sep (onto b ps) ≡ b ∷ glued sep ps
 glued-onto sep b [] = refl

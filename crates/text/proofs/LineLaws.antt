@@ -1,5 +1,5 @@
 -- The lines of a sheet are the pieces between its line ends, but for an empty one at the very end.
-use Rattle.std.proofs.Common.{◌≡◌, ℕ, ◌+◌, ◌<◌, ◌≤◌, Bool, true, false, cond, eqb, List, [], ◌∷◌, length, Some, None, Option, unwrap_or, sym, refl, ap, ◌∙◌, subst, arith, Bor}
+use Rattle.std.proofs.Common.{◌≡◌, ℕ, ◌+◌, ◌<◌, Bool, true, false, cond, eqb, List, [], ◌∷◌, length, Some, None, Option, unwrap_or, sym, refl, ap, ◌∙◌, subst, arith, Bor}
 use Rattle.text.specs.Pieces.{pieces, lines_of, onto, rest, Shorter}
 use Rattle.text.specs.Rows.{NextLine}
 use Rattle.text.proofs.PieceLaws.{pieces_are}

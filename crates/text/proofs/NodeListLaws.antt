@@ -1,5 +1,5 @@
 -- One word after the other, a node list is read: what is kept of the words so far, and what is left.
-use Rattle.std.proofs.Common.{◌≡◌, ℕ, zero, suc, ◌+◌, ◌<◌, ◌≤◌, Bool, true, false, cond, List, [], ◌∷◌, ◌++◌, length, set, Some, None, Option, sym, refl, ap, ◌∙◌, append_assoc, append-nil, arith}
+use Rattle.std.proofs.Common.{◌≡◌, ℕ, zero, suc, ◌<◌, ◌≤◌, List, [], ◌∷◌, ◌++◌, length, set, Some, None, Option, sym, refl, ap, ◌∙◌, append_assoc, append-nil, arith}
 use Rattle.text.specs.declared.nodes.NodeList.{NodeList}
 use Rattle.text.specs.Numbers.{number_in}
 use Rattle.text.specs.NodeLists.{headed, numbers_in, padded, kept}

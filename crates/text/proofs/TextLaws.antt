@@ -1,5 +1,5 @@
 -- What is written one after the other is written, and what a buffer then holds.
-use Rattle.std.proofs.Common.{◌≡◌, ℕ, zero, suc, ◌+◌, ◌<◌, ◌≤◌, List, [], ◌∷◌, ◌++◌, length, take, drop, sym, refl, ap, ◌∙◌, append_assoc, append-nil, arith, length-append, take-append-drop}
+use Rattle.std.proofs.Common.{◌≡◌, ℕ, zero, suc, ◌≤◌, List, [], ◌∷◌, ◌++◌, length, take, drop, sym, refl, ap, ◌∙◌, append_assoc, append-nil, arith, length-append, take-append-drop}
 use Rattle.std.proofs.lemmas.List.{drop-drop, drop_all, take_all, take_at, length-take-le}
 use Rattle.text.specs.declared.writer.Writer.{Writer}
 use Rattle.text.specs.Texts.{Wrote, written, past, room, whole}

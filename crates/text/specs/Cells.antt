@@ -1,6 +1,5 @@
 -- The fields of a line with their columns, and the tokens that a lexer gives for them.
-use Rattle.std.specs.Prelude.{◌≡◌, ℕ, ◌+◌, List, [], ◌∷◌, length, Option}
-use Rattle.text.specs.declared.place.Place.{Place}
+use Rattle.std.specs.Prelude.{◌≡◌, ℕ, ◌+◌, List, [], ◌∷◌, length}
 use Rattle.text.specs.declared.token.Token.{Token}
 use Rattle.text.specs.declared.token.Token.TheVariants.{Field, End}
 use Rattle.text.specs.declared.token.Lexer.{Lexer}

@@ -1,6 +1,5 @@
 -- The numbers of the reader's faults, and which of several faults is told.
 use Rattle.std.specs.Prelude.{◌≡◌, ℕ, ◌<◌, ◌≤◌, ◌⊎◌}
-use Rattle.text.specs.declared.place.Place.{Place}
 use Rattle.text.specs.declared.fault.FaultKind.{FaultKind}
 use Rattle.text.specs.declared.fault.FaultKind.TheVariants.{Names, Field, Count, Node, Sheet}
 use Rattle.text.specs.declared.fault.Fault.{Fault}

@@ -1,6 +1,6 @@
 -- Node lists as a sheet writes them: numbers up to 65535 with single spaces between; an empty text is the empty list.
-use Rattle.std.specs.Prelude.{◌≡◌, ℕ, zero, suc, ◌≤◌, List, [], ◌∷◌, ◌++◌, length, Some, None, decimal, Option, MatchOption, ◌≢◌}
-use Rattle.std.specs.List.{flat_map, AllByRecursion as All}
+use Rattle.std.specs.Prelude.{◌≡◌, ℕ, zero, suc, ◌≤◌, List, [], ◌∷◌, length, Some, None, Option, MatchOption, ◌≢◌}
+use Rattle.std.specs.List.{AllByRecursion as All}
 use Rattle.text.specs.declared.nodes.NodeList.{NodeList}
 use Rattle.text.specs.Numbers.{number_in}
 use Rattle.text.specs.Pieces.{parted}

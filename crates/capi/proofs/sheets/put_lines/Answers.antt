@@ -1,5 +1,5 @@
-use Rattle.std.proofs.Common.{◌≡◌, ◌≤◌, length, sym, refl, ap, ◌∙◌, arith}
-use Rattle.capi.proofs.Lined.{next-given, far_none, far-more, far-ended, far-past}
+use Rattle.std.proofs.Common.{sym, refl, ap, ◌∙◌, arith}
+use Rattle.capi.proofs.Lined.{next-given, far_none, far-more}
 use Rattle.capi.proofs.sheets.put_lines.Goals as goal
 
 pub loop-turn-init : goal.loop-turn-init

@@ -1,6 +1,5 @@
 use Rattle.std.proofs.Common.{◌≡◌, ◌*◌, ◌≤◌, [], length}
 use Rattle.sheet.specs.Going.{Part, Going}
-use Rattle.capi.specs.Sheets.{part_text}
 use Rattle.capi.proofs.Lined.{Far}
 use Rattle.capi.proofs.sheets.put_lines.Given as goal
 

@@ -1,4 +1,4 @@
-use Rattle.std.proofs.Common.{◌≡◌, ℕ, List, ◌++◌, length, replicate, sym, ap, ◌∙◌, subst, arith, length-append, rules}
+use Rattle.std.proofs.Common.{ℕ, List, ◌++◌, replicate, sym, ap, ◌∙◌, subst, arith, length-append, rules}
 use Rattle.text.specs.Texts.{Wrote, whole}
 use Rattle.text.proofs.TextLaws.{wrote-whole, wrote-more}
 use Rattle.sheet.specs.Replies.{heading}

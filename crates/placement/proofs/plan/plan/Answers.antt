@@ -1,10 +1,10 @@
-use Rattle.std.proofs.Common.{◌≡◌, ℕ, ◌-◌, ◌<◌, ◌≤◌, min, List, [], ◌∷◌, ◌++◌, length, sym, ap, ◌∙◌, subst, inl, inr, le_refl, arith}
+use Rattle.std.proofs.Common.{◌≡◌, ℕ, ◌-◌, ◌<◌, ◌≤◌, min, List, ◌∷◌, ◌++◌, length, ap, ◌∙◌, inl, inr, le_refl, arith}
 use native.Mathlib.Nat.{le-min, min-le_left}
 use Rattle.std.proofs.lemmas.List.{length-map}
 use Rattle.site.specs.Site.{Site}
 use Rattle.choices.specs.Choice.{Copies, choices}
 use Rattle.choices.specs.Plan.{first_of, parity, round, planned}
-use Rattle.choices.proofs.Head.{empty-or, empty-none, first-choice}
+use Rattle.choices.proofs.Head.{empty-or, first-choice}
 use Rattle.blocks.specs.Blocks.{copies_of}
 use Rattle.blocks.specs.Lists.{blocks_of, lists_of}
 use Rattle.placement.proofs.plan.plan.Goals as goal

@@ -1,4 +1,4 @@
-use Rattle.std.proofs.Common.{◌≡◌, length, refl, ap, ◌∙◌, arith}
+use Rattle.std.proofs.Common.{◌≡◌, length, refl, ◌∙◌, arith}
 use Rattle.room.specs.Rooms.{Tallied}
 use Rattle.room.proofs.Rooms.{tally-none, tally-few, space-by}
 use Rattle.room.proofs.space.space.Goals as goal

@@ -1,4 +1,4 @@
-use Rattle.std.proofs.Common.{◌≤◌, map, length, arith, length-take}
+use Rattle.std.proofs.Common.{map, length, arith, length-take}
 use native.Mathlib.Nat.{min-le_left}
 use Rattle.store.specs.Answers.{shown}
 use Rattle.sheet.specs.Replies.{reply_text}

@@ -1,13 +1,13 @@
-use Rattle.std.proofs.Common.{◌≡◌, ℕ, ◌≤◌, List, [], ◌∷◌, ◌++◌, map, take, sym, refl, ap, ◌∙◌, subst, arith}
+use Rattle.std.proofs.Common.{◌≡◌, ℕ, ◌≤◌, [], ◌∷◌, ◌++◌, take, sym, refl, ap, ◌∙◌, subst, arith}
 use Rattle.std.proofs.lemmas.List.{take-map}
 use Rattle.site.specs.declared.Node.{Node}
 use Rattle.blocks.specs.Blocks.{numbers}
 use Rattle.reader.specs.declared.calls.Asked.{Asked}
-use Rattle.store.specs.Stripes.{Call, offer, seal}
+use Rattle.store.specs.Stripes.{Call, seal}
 use Rattle.store.specs.Table.{ledger_of}
 use Rattle.sheet.specs.Runs.{Lined}
 use Rattle.sheet.specs.Said.{Stands, Low}
-use Rattle.sheet.proofs.Cuts.{Cut, cut-kept, lined-cut}
+use Rattle.sheet.proofs.Cuts.{cut-kept, lined-cut}
 use Rattle.sheet.proofs.answers.answer_line.Goals as goal
 
 low_by : {a b : Asked} {n : ℕ} → a ≡ b → Low b → n ≤ 4294967295 → Low a × (n ≤ 4294967295)

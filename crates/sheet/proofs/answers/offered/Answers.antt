@@ -1,7 +1,6 @@
-use Rattle.std.proofs.Common.{◌≡◌, ℕ, ◌+◌, ◌<◌, List, [], ◌∷◌, ◌++◌, map, length, get_or, take, drop, set, replicate, sym, refl, ap, ◌∙◌, add-one, arith, length-set}
+use Rattle.std.proofs.Common.{◌≡◌, ℕ, List, [], ◌∷◌, ◌++◌, get_or, take, drop, set, replicate, sym, ap, ◌∙◌, add-one, arith, length-set}
 use Rattle.std.proofs.lemmas.List.{map-set, take_all}
 use Rattle.site.specs.declared.Node.{Node}
-use Rattle.blocks.specs.Blocks.{numbers}
 use Rattle.sheet.proofs.Cuts.{over-more}
 use Rattle.sheet.proofs.answers.offered.Goals as goal
 

@@ -1,4 +1,4 @@
-use Rattle.std.proofs.Common.{◌≡◌, List, ◌∷◌, ◌++◌, length, take, drop, replicate}
+use Rattle.std.proofs.Common.{◌≡◌, ◌++◌, length, take, drop, replicate}
 use Rattle.blocks.specs.Blocks.{numbers}
 use Rattle.sheet.proofs.answers.offered.Given as goal
 

@@ -1,4 +1,4 @@
-use Rattle.std.proofs.Common.{◌≡◌, ◌*◌, ◌≤◌, length, sym, refl, ap, ◌∙◌, subst, arith}
+use Rattle.std.proofs.Common.{ap, ◌∙◌, subst, arith}
 use lib.Count.{ones, ones-le}
 use Rattle.text.specs.Texts.{Wrote}
 use Rattle.text.specs.Spaced.{spaced}

@@ -1,4 +1,4 @@
-use Rattle.std.proofs.Common.{◌≡◌, map, length, ap, subst, arith}
+use Rattle.std.proofs.Common.{map, length, ap, subst, arith}
 use Rattle.std.proofs.lemmas.List.{take_all}
 use Rattle.text.specs.Texts.{Wrote}
 use Rattle.text.proofs.TextLaws.{wrote_none}

@@ -1,9 +1,9 @@
-use Rattle.std.proofs.Common.{◌≡◌, ℕ, ◌^◌, ◌<◌, [], ◌∷◌, ◌++◌, decimal, sym, refl, ap, ◌∙◌, subst, arith}
+use Rattle.std.proofs.Common.{ℕ, ◌∷◌, ◌++◌, decimal, sym, ap, ◌∙◌, subst, arith}
 use Rattle.text.specs.Texts.{Wrote}
 use Rattle.text.proofs.TextLaws.{wrote-more}
 use Rattle.store.specs.declared.types.Kind.{Kind}
 use Rattle.store.specs.declared.types.Row.{Row}
-use Rattle.store.specs.Answers.{shown, kind_of}
+use Rattle.store.specs.Answers.{shown}
 use Rattle.sheet.specs.Replies.{row_text}
 use Rattle.sheet.proofs.Texts.{row-short}
 use Rattle.sheet.proofs.replies.put_row.Goals as goal

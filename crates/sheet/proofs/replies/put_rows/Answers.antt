@@ -1,9 +1,9 @@
-use Rattle.std.proofs.Common.{◌≡◌, List, [], ◌++◌, map, length, get_or, sym, refl, ap, ◌∙◌, subst, arith, length-append}
+use Rattle.std.proofs.Common.{map, length, sym, ap, subst, arith}
 use Rattle.std.proofs.lemmas.List.{nil_from_length}
 use Rattle.text.specs.Texts.{Wrote}
 use Rattle.text.proofs.TextLaws.{wrote_none, wrote-more}
 use Rattle.store.specs.Answers.{shown}
-use Rattle.sheet.specs.Replies.{rows_text, row_text, further_text}
+use Rattle.sheet.specs.Replies.{rows_text}
 use Rattle.sheet.proofs.Texts.{rows-first, rows_short}
 use Rattle.sheet.proofs.replies.put_rows.Goals as goal
 

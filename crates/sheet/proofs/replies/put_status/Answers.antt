@@ -1,4 +1,4 @@
-use Rattle.std.proofs.Common.{◌≡◌, length, decimal, sym, refl, ap, ◌∙◌, subst, arith}
+use Rattle.std.proofs.Common.{length, decimal, sym, ap, ◌∙◌, subst, arith}
 use Rattle.text.specs.Texts.{Wrote}
 use Rattle.sheet.specs.Replies.{status}
 use Rattle.sheet.proofs.Texts.{number-low, two_digits}

@@ -1,4 +1,4 @@
-use Rattle.std.proofs.Common.{ℕ, List, length, take, sym, refl, ap, ◌∙◌, rules}
+use Rattle.std.proofs.Common.{ℕ, List, length, take, sym, ap, ◌∙◌, rules}
 use Rattle.text.specs.Texts.{whole}
 use Rattle.text.proofs.TextLaws.{wrote-whole}
 use Rattle.sheet.specs.Replies.{heading}

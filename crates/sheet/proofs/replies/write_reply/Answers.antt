@@ -1,4 +1,4 @@
-use Rattle.std.proofs.Common.{ℕ, List, map, length, take, decimal, sym, refl, ap, ◌∙◌, arith, rules}
+use Rattle.std.proofs.Common.{ℕ, List, map, length, take, decimal, sym, ap, ◌∙◌, arith, rules}
 use Rattle.text.specs.Texts.{whole}
 use Rattle.text.proofs.TextLaws.{wrote-whole, wrote-more}
 use Rattle.store.specs.Answers.{shown}

@@ -1,4 +1,4 @@
-use Rattle.std.proofs.Common.{get_or, drop, sym, ◌∙◌, arith}
+use Rattle.std.proofs.Common.{sym, ◌∙◌, arith}
 use Rattle.std.proofs.lemmas.List.{at_drop_more, at_drop_all}
 use Rattle.text.specs.Orders.{elem}
 use Rattle.text.proofs.OrderLaws.{elem-here, elem_past}

@@ -1,5 +1,5 @@
 -- Each way out shows whose decimal text the bytes are, or that they are none's; the value as `number_in` gives it follows.
-use Rattle.std.proofs.Common.{◌≡◌, ℕ, ◌+◌, ◌-◌, ◌*◌, ◌^◌, ◌<◌, ◌≤◌, List, length, get_or, take, Some, None, decimal, sym, ap, ◌∙◌, subst, ⊎_elim, arith, true-eqb, false-eqb}
+use Rattle.std.proofs.Common.{◌≡◌, ◌+◌, get_or, take, Some, None, decimal, sym, ap, ◌∙◌, subst, ⊎_elim, arith, true-eqb, false-eqb}
 use Rattle.std.specs.Str.Parse.{digits_value, AllDigits}
 use Rattle.std.proofs.lemmas.Int.Digits.{digits_value_more, digits_more}
 use Rattle.std.proofs.lemmas.List.{take_all}

@@ -1,4 +1,4 @@
-use Rattle.std.proofs.Common.{◌≡◌, length, refl, arith, length-take}
+use Rattle.std.proofs.Common.{length, refl, arith, length-take}
 use native.Mathlib.Nat.{min-le_left}
 use Rattle.text.specs.Rows.{left_of}
 use Rattle.sheet.specs.FaultTexts.{fault_line}

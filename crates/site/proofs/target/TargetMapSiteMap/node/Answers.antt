@@ -1,4 +1,4 @@
-use Rattle.std.proofs.Common.{◌<◌, sym, ◌∙◌}
+use Rattle.std.proofs.Common.{◌<◌, sym}
 use Rattle.site.proofs.Places.{all-nth, nth-map-some, nth-map-none}
 use Rattle.site.specs.Maps.{targeted}
 use Rattle.site.proofs.target.TargetMapSiteMap.node.Goals as goal

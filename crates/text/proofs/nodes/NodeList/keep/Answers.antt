@@ -1,4 +1,4 @@
-use Rattle.std.proofs.Common.{length, set, sym, refl, ap, ◌∙◌, arith}
+use Rattle.std.proofs.Common.{set, refl, ap, ◌∙◌, arith}
 use Rattle.text.specs.NodeLists.{padded}
 use Rattle.text.proofs.NodeListLaws.{padded-set, padded-full}
 use Rattle.text.proofs.nodes.NodeList.keep.Goals as goal

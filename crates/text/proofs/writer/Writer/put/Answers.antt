@@ -1,4 +1,4 @@
-use Rattle.std.proofs.Common.{◌≡◌, ◌+◌, ◌≤◌, [], ◌∷◌, ◌++◌, length, take, sym, refl, ◌∙◌, arith}
+use Rattle.std.proofs.Common.{◌+◌, ◌≤◌, [], ◌∷◌, ◌++◌, length, take, sym, refl, ◌∙◌, arith}
 use Rattle.std.proofs.lemmas.List.{take_more_set, take_all, drop-set-lt, drop-drop, length-set, length_push, length-take-le}
 use Rattle.text.proofs.TextLaws.{no_room}
 use Rattle.text.proofs.writer.Writer.put.Goals as goal
