@@ -1,7 +1,7 @@
 -- The parity nodes never run out. If the visit of all nodes took too few, each yes node that is not planned lies in a rack with c
 -- planned blocks; then the plan has all that the site has space for.
 use Rattle.std.proofs.Common.{◌≡◌, ℕ, zero, suc, ◌-◌, ◌<◌, ◌≤◌, true, false, not, eqb, ◌⊎◌, List, [], ◌∷◌, ◌++◌, length, count_by, refl, ap, ◌∙◌, inl, inr, arith}
-use Rattle.std.specs.List.{range_with_len, AllByRecursion as All}
+use Rattle.std.specs.List.{range_with_len, AllByRecursion}
 use Rattle.std.proofs.lemmas.List.{append-nil, append_assoc, length-append}
 use Rattle.std.proofs.lemmas.Bool.{cases_Bool, cases_lt, eqb-true, ltb-true, ltb-false, and_parts, and_cases, or_cases, or_left, not-true, not-false, both_ways}
 use Rattle.site.specs.Site.{Site, Limits, keeps, node_rack}
@@ -20,7 +20,7 @@ keeps_below [] v h = absurd (both_ways false refl h)
 keeps_below (p ∷ s) zero h = omega arith
 keeps_below (p ∷ s) (suc v) h = let l = keeps_below s v h in omega arith
 
-rack-within : (s : Site) (v : ℕ) → All (λ p. p.0.0 < 32) s → v < length s → node_rack s v < 32
+rack-within : (s : Site) (v : ℕ) → AllByRecursion (λ p. p.0.0 < 32) s → v < length s → node_rack s v < 32
 rack-within [] v h l = absurd (omega arith)
 rack-within (p ∷ s) zero h l = h.0
 rack-within (p ∷ s) (suc v) h l = rack-within s v h.1 (omega arith)

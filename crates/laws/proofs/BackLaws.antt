@@ -1,6 +1,6 @@
 -- What is written reads back.
 use Rattle.std.proofs.Common.{◌≡◌, ℕ, zero, suc, ◌+◌, ◌<◌, ◌≤◌, true, false, cond, eqb, List, [], ◌∷◌, map, length, get_or, take, drop, Some, decimal, sym, refl, ap, ◌∙◌, subst, ⊎_elim, arith}
-use Rattle.std.specs.List.{AllByRecursion as All}
+use Rattle.std.specs.List.{AllByRecursion}
 use Rattle.std.proofs.lemmas.Bool.{eq-eqb, or_left, or_right, or_cases, eqb-true, both_ways}
 use Rattle.site.specs.Site.{Place}
 use Rattle.site.specs.declared.Mark.{Mark}
@@ -125,7 +125,7 @@ node-fits count p h r (suc zero) l = number_fits 31 p.0.0 (omega arith)
 node-fits count p h r (suc (suc zero)) l = λ k m. m.1 p.1 refl
 node-fits count p h r (suc (suc (suc j))) l = absurd (omega arith)
 
-nodes-clean : (names is : List ℕ) → InOrder node_names names is → (n count : ℕ) (ls : List (List ℕ)) (ps : List Place) → count + length ps ≤ 256 → All (λ p. p.0.0 < 32) ps → NodesText is count ls ps → Clean (NodesFault is n count ls)
+nodes-clean : (names is : List ℕ) → InOrder node_names names is → (n count : ℕ) (ls : List (List ℕ)) (ps : List Place) → count + length ps ≤ 256 → AllByRecursion (λ p. p.0.0 < 32) ps → NodesText is count ls ps → Clean (NodesFault is n count ls)
 nodes-clean names is o n count [] ps few racked text f h = h
 nodes-clean names is o n count ([] ∷ ls) ps few racked text f h = h
 nodes-clean names is o n count ((b ∷ bs) ∷ ls) [] few racked text f h = text
@@ -159,7 +159,7 @@ same-mark Yes No e = absurd (omega (arith, ap (λ l. get_or l 0 0) e))
 same-mark No Yes e = absurd (omega (arith, ap (λ l. get_or l 0 0) e))
 same-mark No No e = refl
 
-pub same-places : (names is js : List ℕ) → InOrder node_names names is → InOrder node_names names js → (count : ℕ) (ls : List (List ℕ)) (ps qs : List Place) → All (λ p. p.0.0 < 32) ps → All (λ p. p.0.0 < 32) qs → NodesText is count ls ps → NodesText js count ls qs → ps ≡ qs
+pub same-places : (names is js : List ℕ) → InOrder node_names names is → InOrder node_names names js → (count : ℕ) (ls : List (List ℕ)) (ps qs : List Place) → AllByRecursion (λ p. p.0.0 < 32) ps → AllByRecursion (λ p. p.0.0 < 32) qs → NodesText is count ls ps → NodesText js count ls qs → ps ≡ qs
 same-places names is js o p count [] [] [] r s a b = refl
 same-places names is js o p count [] [] (y ∷ qs) r s a b = absurd b
 same-places names is js o p count [] (x ∷ ps) qs r s a b = absurd a

@@ -1,6 +1,6 @@
 -- A call line is the text of one call only.
 use Rattle.std.proofs.Common.{◌≡◌, ℕ, ◌^◌, ◌<◌, ◌≤◌, true, false, cond, eqb, List, [], ◌∷◌, ◌++◌, map, get_or, Some, None, decimal, Option, sym, refl, ap, ◌∙◌, subst, ⊎_elim, arith}
-use Rattle.std.specs.List.{flat_map, AllByRecursion as All}
+use Rattle.std.specs.List.{flat_map, AllByRecursion}
 use Rattle.std.proofs.lemmas.Fmt.{decimal_nonempty}
 use Rattle.std.proofs.ByRecursion.{All-from_get_or}
 use Rattle.std.proofs.lemmas.Bool.{or_cases, eqb-true, both_ways}
@@ -40,19 +40,19 @@ spaced-glued (v ∷ vs) = ap (λ l. decimal v ++ l) (further-glued vs)
 digits-free : (v : ℕ) → v ≤ 65535 → Free 32 (decimal v)
 digits-free v h = All-from_get_or (λ b. b ≡ 32 → ⊥) (decimal v) 0 (λ i l e. omega (arith, all_digits (decimal v) v (omega arith) refl i l))
 
-all-free : (vs : List ℕ) → All (λ v. v ≤ 65535) vs → All (Free 32) (map decimal vs)
+all-free : (vs : List ℕ) → AllByRecursion (λ v. v ≤ 65535) vs → AllByRecursion (Free 32) (map decimal vs)
 all-free [] h = tt
 all-free (v ∷ vs) h = (digits-free v h.0, all-free vs h.1)
 
-parted-spaced : (vs : List ℕ) → All (λ v. v ≤ 65535) vs → parted 32 (spaced vs) ≡ map decimal vs
+parted-spaced : (vs : List ℕ) → AllByRecursion (λ v. v ≤ 65535) vs → parted 32 (spaced vs) ≡ map decimal vs
 parted-spaced [] h = refl
 parted-spaced (v ∷ vs) h = ap (parted 32) (spaced-glued (v ∷ vs)) ∙ parted-glued 32 (decimal v) (map decimal vs) (decimal_nonempty v (omega (arith, h.0))) (digits-free v h.0) (all-free vs h.1)
 
-words_back : (vs : List ℕ) → All (λ v. v ≤ 65535) vs → numbers_in 65535 (map decimal vs) ≡ Some vs
+words_back : (vs : List ℕ) → AllByRecursion (λ v. v ≤ 65535) vs → numbers_in 65535 (map decimal vs) ≡ Some vs
 words_back [] h = refl
 words_back (v ∷ vs) h = (λ k. headed (sym (exact-is 65535 (decimal v) (Some v) (omega arith) (h.0, refl)) k) (words_back vs h.1 k))
 
-list_back : (vs : List ℕ) → All (λ v. v ≤ 65535) vs → list_or (node_list_in (spaced vs)) ≡ vs
+list_back : (vs : List ℕ) → AllByRecursion (λ v. v ≤ 65535) vs → list_or (node_list_in (spaced vs)) ≡ vs
 list_back vs h = ap (λ ws. list_or (numbers_in 65535 ws)) (parted-spaced vs h) ∙ ap list_or (words_back vs h)
 
 -- the call of a letter's byte, a first number, nodes and a start node

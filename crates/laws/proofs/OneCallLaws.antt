@@ -1,6 +1,6 @@
 -- A call's line is the text of one call at most.
 use Rattle.std.proofs.Common.{◌≡◌, ℕ, ◌<◌, ◌≤◌, List, [], ◌∷◌, ◌++◌, map, Some, decimal, sym, refl, ap, ◌∙◌, subst, arith}
-use Rattle.std.specs.List.{flat_map, AllByRecursion as All}
+use Rattle.std.specs.List.{flat_map, AllByRecursion}
 use Rattle.std.proofs.lemmas.Fmt.{decimal_nonempty}
 use Rattle.std.proofs.ByRecursion.{All-from_get_or}
 use Rattle.text.specs.NodeLists.{kept}
@@ -32,15 +32,15 @@ spaced-glued (v ∷ vs) = ap (λ l. decimal v ++ l) (further-glued vs)
 digits-free : (v : ℕ) → v ≤ 65535 → Free 32 (decimal v)
 digits-free v h = All-from_get_or (λ b. b ≡ 32 → ⊥) (decimal v) 0 (λ i l e. omega (arith, all_digits (decimal v) v (omega arith) refl i l))
 
-all-free : (vs : List ℕ) → All (λ v. v ≤ 65535) vs → All (Free 32) (map decimal vs)
+all-free : (vs : List ℕ) → AllByRecursion (λ v. v ≤ 65535) vs → AllByRecursion (Free 32) (map decimal vs)
 all-free [] h = tt
 all-free (v ∷ vs) h = (digits-free v h.0, all-free vs h.1)
 
-parted-spaced : (vs : List ℕ) → All (λ v. v ≤ 65535) vs → parted 32 (spaced vs) ≡ map decimal vs
+parted-spaced : (vs : List ℕ) → AllByRecursion (λ v. v ≤ 65535) vs → parted 32 (spaced vs) ≡ map decimal vs
 parted-spaced [] h = refl
 parted-spaced (v ∷ vs) h = ap (parted 32) (spaced-glued (v ∷ vs)) ∙ parted-glued 32 (decimal v) (map decimal vs) (decimal_nonempty v (omega (arith, h.0))) (digits-free v h.0) (all-free vs h.1)
 
-same-words : (vs ws : List ℕ) → All (λ v. v ≤ 65535) vs → All (λ v. v ≤ 65535) ws → map decimal vs ≡ map decimal ws → vs ≡ ws
+same-words : (vs ws : List ℕ) → AllByRecursion (λ v. v ≤ 65535) vs → AllByRecursion (λ v. v ≤ 65535) ws → map decimal vs ≡ map decimal ws → vs ≡ ws
 same-words [] [] p q e = refl
 same-words [] (w ∷ ws) p q e = let z : ◌≡◌ {A = ℕ} 0 1 = cc in absurd (omega arith)
 same-words (v ∷ vs) [] p q e = let z : ◌≡◌ {A = ℕ} 0 1 = cc in absurd (omega arith)
@@ -51,7 +51,7 @@ same-words (v ∷ vs) (w ∷ ws) p q e =
     let others = same-words vs ws p.1 q.1 more in
     (λ i. first i ∷ others i)
 
-same-spaced : (vs ws : List ℕ) → All (λ v. v ≤ 65535) vs → All (λ v. v ≤ 65535) ws → spaced vs ≡ spaced ws → vs ≡ ws
+same-spaced : (vs ws : List ℕ) → AllByRecursion (λ v. v ≤ 65535) vs → AllByRecursion (λ v. v ≤ 65535) ws → spaced vs ≡ spaced ws → vs ≡ ws
 same-spaced vs ws p q e = same-words vs ws p q (sym (parted-spaced vs p) ∙ ap (parted 32) e ∙ parted-spaced ws q)
 
 same_asked : (x y : Asked) (r : List ℕ) → call_act x ≡ call_act y → AskedWords x → AskedWords y → RestText x r → RestText y r → x ≡ y

@@ -1,7 +1,7 @@
 -- Where code and site have no fault, what they say has sizes that a sheet can write.
 use Rattle.std.proofs.Common.{◌≡◌, ℕ, zero, suc, ◌+◌, ◌/◌, ◌%◌, ◌^◌, ◌<◌, ◌≤◌, Bool, true, false, cond, eqb, List, [], ◌∷◌, map, length, get_or, decimal, sym, refl, subst, inl, inr, ⊎_elim, arith}
 use Rattle.std.specs.Fmt.{digits, digits_onto, digit_glyph}
-use Rattle.std.specs.List.{AllByRecursion as All}
+use Rattle.std.specs.List.{AllByRecursion}
 use Rattle.std.proofs.lemmas.Bool.{eqb-true, or_cases, both_ways, cases_lt}
 use Rattle.std.proofs.lemmas.Fmt.{decimal_injective, length-decimal-le}
 use Rattle.std.proofs.Math.Nat.{one-le-pow, pow-suc}
@@ -108,7 +108,7 @@ regular-words n (l ∷ ls) racks each clean (is, o, text) =
       end = ⊎_elim (λ l. absurd (clean (at Count (n + 1 + 1) 1) (inr (inl (is, o, inr (l, refl)))))) (λ l. omega arith) (cases_lt 0 (length (get_or ls 1 [])))
 
 -- the racks of node lines with no fault are below 32
-nodes-racked : (names is : List ℕ) → InOrder node_names names is → (n count : ℕ) (ls : List (List ℕ)) (ps : List Place) → Clean (NodesFault is n count ls) → NodesText is count ls ps → All (λ p. p.0.0 < 32) ps
+nodes-racked : (names is : List ℕ) → InOrder node_names names is → (n count : ℕ) (ls : List (List ℕ)) (ps : List Place) → Clean (NodesFault is n count ls) → NodesText is count ls ps → AllByRecursion (λ p. p.0.0 < 32) ps
 nodes-racked names is o n count ls [] clean text = tt
 nodes-racked names is o n count [] (p ∷ ps) clean text = absurd text
 nodes-racked names is o n count ([] ∷ ls) (p ∷ ps) clean text = absurd text
@@ -118,6 +118,6 @@ nodes-racked names is o n count ((b ∷ bs) ∷ ls) (p ∷ ps) clean text =
     (omega arith, nodes-racked names is o (n + 1) (count + 1) ls ps (λ f h. clean f (inr h)) text.1)
 
 -- and so are those of a listing
-pub listing-racked : (n : ℕ) (ls : List (List ℕ)) (ps : List Place) → Clean (SitePartFault n ls) → ListingSaid ls ps → All (λ p. p.0.0 < 32) ps
+pub listing-racked : (n : ℕ) (ls : List (List ℕ)) (ps : List Place) → Clean (SitePartFault n ls) → ListingSaid ls ps → AllByRecursion (λ p. p.0.0 < 32) ps
 listing-racked n [] ps clean said = absurd (clean (at Sheet n 1) refl)
 listing-racked n (l ∷ ls) ps clean (is, o, text) = nodes-racked l is o (n + 1) 0 ls ps (λ f h. clean f (inr (inr (is, o, h)))) text

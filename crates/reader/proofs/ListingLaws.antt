@@ -1,7 +1,7 @@
 -- The earliest fault of a node listing, line after line, and the places that its lines say.
 use Rattle.std.proofs.Common.{◌≡◌, ℕ, zero, suc, ◌+◌, ◌<◌, ◌≤◌, true, false, cond, eqb, ◌⊎◌, List, [], ◌∷◌, ◌++◌, length, take, drop, set, Some, None, decimal, sym, refl, ap, ◌∙◌, subst, inl, inr, ⊎_elim, append_assoc, append-nil, arith}
 use Rattle.std.specs.Str.Parse.{digits_value}
-use Rattle.std.specs.List.{AllByRecursion as All}
+use Rattle.std.specs.List.{AllByRecursion}
 use Rattle.std.proofs.lemmas.List.{take_more_set, drop-set-lt, drop-drop, take_all}
 use Rattle.std.proofs.lemmas.Bool.{cases_Bool, both_ways, cases_eq, cases_lt, eqb-true, or_cases, lt-ltb}
 use Rattle.std.proofs.ByRecursion.{All-push}
@@ -122,10 +122,10 @@ front-more table i p ps h = ap (λ l. l ++ ps) (take_more_set table i p h) ∙ a
 pub back_more : (was table : List Place) (i : ℕ) (p : Place) → drop i table ≡ drop i was → drop (i + 1) (set table i p) ≡ drop (i + 1) was
 back_more was table i p e = drop-set-lt (i + 1) table i p (omega arith) ∙ sym (drop-drop 1 i table) ∙ ap (drop 1) e ∙ drop-drop 1 i was
 
-pub racked-more : (table : List Place) (i : ℕ) (p : Place) → i < length table → All (λ q. q.0.0 < 32) (take i table) → p.0.0 < 32 → All (λ q. q.0.0 < 32) (take (i + 1) (set table i p))
-racked-more table i p h a r = subst (All (λ q. q.0.0 < 32)) (sym (take_more_set table i p h)) (All-push (λ q. q.0.0 < 32) (take i table) p a r)
+pub racked-more : (table : List Place) (i : ℕ) (p : Place) → i < length table → AllByRecursion (λ q. q.0.0 < 32) (take i table) → p.0.0 < 32 → AllByRecursion (λ q. q.0.0 < 32) (take (i + 1) (set table i p))
+racked-more table i p h a r = subst (AllByRecursion (λ q. q.0.0 < 32)) (sym (take_more_set table i p h)) (All-push (λ q. q.0.0 < 32) (take i table) p a r)
 
-window-whole : (n : ℕ) (ps : List Place) → length ps ≤ n → All (λ p. p.0.0 < 32) ps → window n ps ≡ ps
+window-whole : (n : ℕ) (ps : List Place) → length ps ≤ n → AllByRecursion (λ p. p.0.0 < 32) ps → window n ps ≡ ps
 window-whole zero [] h a = refl
 window-whole zero (p ∷ ps) h a = absurd (omega arith)
 window-whole (suc n) [] h a = refl
@@ -137,7 +137,7 @@ length_front (suc n) [] = omega arith
 length_front (suc n) (p ∷ ps) = omega (arith, length_front n ps)
 
 -- a listed map over places that were read means just those
-pub listed-whole : (n : ℕ) (table : List Place) → n ≤ 256 → All (λ p. p.0.0 < 32) (take n table) → listed (take n table) ≡ take n table
+pub listed-whole : (n : ℕ) (table : List Place) → n ≤ 256 → AllByRecursion (λ p. p.0.0 < 32) (take n table) → listed (take n table) ≡ take n table
 listed-whole n table h a = window-whole 256 (take n table) (omega (arith, length_front n table)) a
 
 -- one turn: a line that is not empty was read
@@ -167,7 +167,7 @@ module _ (is : List ℕ) (n count : ℕ) (ls : List (List ℕ)) (line : Line) (a
       (e.0 ∙ ap past_part (sym lines_are), ap (λ k. past_number k after) (line-is ls n line after m t).2 ∙ e.1 ∙ ap (past_number n) (sym lines_are))
 
 -- the listing is read as far as it goes
-module _ (is : List ℕ) (n₀ : ℕ) (ls₀ : List (List ℕ)) (was table : List Place) (count n : ℕ) (ls : List (List ℕ)) (same : Same (NodesFault is n count ls) (NodesFault is n₀ 0 ls₀)) (said : (ps : List Place) → NodesText is count ls ps → NodesText is 0 ls₀ (take count table ++ ps)) (back : drop count table ≡ drop count was) (past : past_part ls ≡ past_part ls₀) (number : past_number n ls ≡ past_number n₀ ls₀) (few : count ≤ 256) (racked : All (λ p. p.0.0 < 32) (take count table)) (after : List (List ℕ)) (m : ℕ) where
+module _ (is : List ℕ) (n₀ : ℕ) (ls₀ : List (List ℕ)) (was table : List Place) (count n : ℕ) (ls : List (List ℕ)) (same : Same (NodesFault is n count ls) (NodesFault is n₀ 0 ls₀)) (said : (ps : List Place) → NodesText is count ls ps → NodesText is 0 ls₀ (take count table ++ ps)) (back : drop count table ≡ drop count was) (past : past_part ls ≡ past_part ls₀) (number : past_number n ls ≡ past_number n₀ ls₀) (few : count ≤ 256) (racked : AllByRecursion (λ p. p.0.0 < 32) (take count table)) (after : List (List ℕ)) (m : ℕ) where
   all_read : Clean (NodesFault is n count ls) → NodesText is count ls [] → after ≡ past_part ls → m ≡ past_number n ls → NodesRead is n₀ ls₀ count was table after m
   all_read clean text e f = record {
     clean = clean-same (NodesFault is n count ls) (NodesFault is n₀ 0 ls₀) same clean;

@@ -1,7 +1,7 @@
 -- Names that begin with different letters differ, so that a names line has one order at most.
 use Rattle.std.proofs.Common.{◌≡◌, ℕ, zero, suc, ◌<◌, true, false, eqb, List, [], ◌∷◌, map, length, get_or, Some, None, Option, sym, refl, ap, ◌∙◌, subst, ⊎_elim, arith}
 use lib.ListN.{length-map}
-use Rattle.std.specs.List.{AllByRecursion as All}
+use Rattle.std.specs.List.{AllByRecursion}
 use Rattle.std.proofs.lemmas.Bool.{and_parts, eqb-true, eq-eqb, or_right, or_left, not-true, both_ways, or_cases}
 use Rattle.text.specs.Orders.{elem, distinct, Order, Apart, Ordered}
 use Rattle.text.specs.Pieces.{parted}
@@ -63,6 +63,6 @@ order-some names (b ∷ line) is h o = omega arith
 
 pub order-names : (names : List (List ℕ)) (line is : List ℕ) → InOrder names line is → (j : ℕ) → elem j is ≡ true → j < length names
 order-names names line is o j e = within is o.names e where
-  within : (js : List ℕ) → All (λ i. i < length names) js → elem j js ≡ true → j < length names
+  within : (js : List ℕ) → AllByRecursion (λ i. i < length names) js → elem j js ≡ true → j < length names
   within [] a e = absurd (both_ways false refl e)
   within (i ∷ js) a e = ⊎_elim (λ p. omega (arith, a.0, eqb-true i j p)) (within js a.1) (or_cases (eqb i j) (elem j js) e)

@@ -1,6 +1,6 @@
 -- n numbers below n, each once, are all of them.
 use Rattle.std.proofs.Common.{◌≡◌, ℕ, zero, suc, ◌+◌, ◌<◌, ◌≤◌, true, false, cond, not, eqb, List, [], ◌∷◌, length, refl, ap, subst, ⊎_elim, arith}
-use Rattle.std.specs.List.{AllByRecursion as All}
+use Rattle.std.specs.List.{AllByRecursion}
 use Rattle.std.proofs.lemmas.Bool.{cases_Bool, not-true, and_parts, and_from, not_from_false, eqb-true, eqb-false, or_parts, or_from}
 use Rattle.text.specs.Orders.{elem, distinct}
 
@@ -46,17 +46,17 @@ length_without n (x ∷ xs) d =
     let i = length_without n xs p.1 in
     split n x xs (λ l. length (x ∷ xs) ≤ length l + 1) (λ h. omega (arith, length-same n xs (subst (λ k. elem k xs ≡ false) h (not-true (elem x xs) p.0)))) (λ _. omega (arith, i))
 
-all_without : (n : ℕ) (xs : List ℕ) → All (λ i. i < suc n) xs → All (λ i. i < n) (without n xs)
+all_without : (n : ℕ) (xs : List ℕ) → AllByRecursion (λ i. i < suc n) xs → AllByRecursion (λ i. i < n) (without n xs)
 unfolding without
 all_without n [] a = tt
-all_without n (x ∷ xs) a = split n x xs (All (λ i. i < n)) (λ _. all_without n xs a.1) (λ h. (omega (arith, a.0, h), all_without n xs a.1))
+all_without n (x ∷ xs) a = split n x xs (AllByRecursion (λ i. i < n)) (λ _. all_without n xs a.1) (λ h. (omega (arith, a.0, h), all_without n xs a.1))
 
 -- there are no more than n of them
-few : (n : ℕ) (xs : List ℕ) → distinct xs ≡ true → All (λ i. i < n) xs → length xs ≤ n
+few : (n : ℕ) (xs : List ℕ) → distinct xs ≡ true → AllByRecursion (λ i. i < n) xs → length xs ≤ n
 few zero [] d a = omega arith
 few zero (x ∷ xs) d a = absurd (omega (arith, a.0))
 few (suc n) xs d a = omega (arith, few n (without n xs) (distinct_without n xs d) (all_without n xs a), length_without n xs d)
 
-pub picks-all : (n : ℕ) (xs : List ℕ) → length xs ≡ n → distinct xs ≡ true → All (λ i. i < n) xs → (j : ℕ) → j < n → elem j xs ≡ true
+pub picks-all : (n : ℕ) (xs : List ℕ) → length xs ≡ n → distinct xs ≡ true → AllByRecursion (λ i. i < n) xs → (j : ℕ) → j < n → elem j xs ≡ true
 picks-all n xs l d a j h =
     ⊎_elim (λ t. t) (λ t. absurd (omega (arith, few n (j ∷ xs) (and_from (not (elem j xs)) (distinct xs) (not_from_false (elem j xs) t) d) (h, a)))) (cases_Bool (elem j xs))

@@ -5,7 +5,7 @@ use Rattle.site.specs.declared.Mark.{Mark}
 use Rattle.text.specs.Numbers.{Numbered}
 use Rattle.text.specs.NodeLists.{node_list_in, kept, Listed}
 use Rattle.text.specs.Spaced.{spaced}
-use Rattle.std.specs.List.{AllByRecursion as All}
+use Rattle.std.specs.List.{AllByRecursion}
 use Rattle.text.specs.declared.nodes.NodeList.{NodeList}
 use Rattle.text.proofs.NumberLaws.{exact-is}
 use Rattle.text.specs.declared.fault.FaultKind.{FaultKind}
@@ -93,7 +93,7 @@ within-limit limit bs None v n e = omega arith
 within-limit limit bs (Some u) v n e = omega (arith, n.0)
 
 -- so is the list of nodes, the call of a letter, and the empty text
-pub fit-nodes : (bs : List ℕ) (o : Option (List ℕ)) (res : Option NodeList) (r none : NodeList) → Listed bs o → res ≡ kept o → r ≡ unwrap_or res none → (f : List ℕ) → bs ≡ f → Fit Nodes f → (vs : List ℕ) × All (λ v. v ≤ 65535) vs × (Some r ≡ kept (Some vs)) × (f ≡ spaced vs)
+pub fit-nodes : (bs : List ℕ) (o : Option (List ℕ)) (res : Option NodeList) (r none : NodeList) → Listed bs o → res ≡ kept o → r ≡ unwrap_or res none → (f : List ℕ) → bs ≡ f → Fit Nodes f → (vs : List ℕ) × AllByRecursion (λ v. v ≤ 65535) vs × (Some r ≡ kept (Some vs)) × (f ≡ spaced vs)
 fit-nodes bs None res r none l e g f is fits = absurd (fits kind.Field (refl, λ vs a h. l vs a (is ∙ h)))
 fit-nodes bs (Some vs) res r none l e g f is fits = (vs, l.0, ap Some (g ∙ ap (λ o. unwrap_or o none) e), sym is ∙ l.1)
 

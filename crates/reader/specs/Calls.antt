@@ -1,6 +1,6 @@
 -- The calls part of a sheet: what can be wrong with its names line and with a call's line, and what a call's line says.
 use Rattle.std.specs.Prelude.{◌≡◌, ℕ, ◌+◌, ◌≤◌, cond, List, [], ◌∷◌, map, Some, None, decimal, Option, ◌==◌}
-use Rattle.std.specs.List.{AllByRecursion as All}
+use Rattle.std.specs.List.{AllByRecursion}
 use Rattle.text.specs.Faults.{at}
 use Rattle.text.specs.NodeLists.{kept}
 use Rattle.text.specs.Pieces.{parted}
@@ -61,7 +61,7 @@ call_act Abandon = act.Abandon
 -- the text of what is asked besides the first number: the nodes of an offer, of which the first eight and the number of
 -- all are kept, the start node of a seal, and nothing else
 abbrev pub RestText : Asked → List ℕ → Type 0
-RestText (Offer list) bs = (vs : List ℕ) × All (λ v. v ≤ 65535) vs × (Some list ≡ kept (Some vs)) × (bs ≡ spaced vs)
+RestText (Offer list) bs = (vs : List ℕ) × AllByRecursion (λ v. v ≤ 65535) vs × (Some list ≡ kept (Some vs)) × (bs ≡ spaced vs)
 RestText (Seal node) bs = bs ≡ decimal node
 RestText Plan bs = bs ≡ []
 RestText Deletions bs = bs ≡ []

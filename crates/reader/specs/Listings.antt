@@ -1,6 +1,6 @@
 -- A node listing: what can be wrong with it, and what it says.
 use Rattle.std.specs.Prelude.{◌≡◌, ℕ, ◌+◌, ◌<◌, ◌≤◌, cond, ◌⊎◌, List, [], ◌∷◌, map, length, take, drop, decimal, ◌==◌}
-use Rattle.std.specs.List.{AllByRecursion as All}
+use Rattle.std.specs.List.{AllByRecursion}
 use Rattle.site.specs.Site.{Place}
 use Rattle.text.specs.Pieces.{parted}
 use Rattle.text.specs.declared.fault.Fault.{Fault}
@@ -38,7 +38,7 @@ NodesText is count ((b ∷ bs) ∷ ls) (p ∷ ps) = NodeText is count (b ∷ bs)
 
 -- places that a listing can write
 abbrev pub Places : List Place → Type 0
-Places ps = (length ps ≤ 256) × All (λ p. p.0.0 < 32) ps
+Places ps = (length ps ≤ 256) × AllByRecursion (λ p. p.0.0 < 32) ps
 
 -- the lines past the first empty one, and the number of the first of them
 abbrev pub past_part : List (List ℕ) → List (List ℕ)
@@ -63,7 +63,7 @@ pub record NodesRead (is : List ℕ) (n : ℕ) (ls : List (List ℕ)) (count : �
   pub clean : Clean (NodesFault is n 0 ls)
   pub text : NodesText is 0 ls (take count table)
   pub few : count ≤ 256
-  pub racked : All (λ p. p.0.0 < 32) (take count table)
+  pub racked : AllByRecursion (λ p. p.0.0 < 32) (take count table)
   pub back : drop count table ≡ drop count was
   pub after_it : after ≡ past_part ls
   pub next : m ≡ past_number n ls

@@ -1,6 +1,6 @@
 -- What the fields of a value line have to be, and what can be wrong with one.
 use Rattle.std.specs.Prelude.{◌≡◌, ℕ, ◌<◌, ◌≤◌, Bool, cond, ◌⊎◌, List, [], Some, None, codes, decimal, Option, MatchOption, ◌==◌, ◌≢◌}
-use Rattle.std.specs.List.{AllByRecursion as All}
+use Rattle.std.specs.List.{AllByRecursion}
 use Rattle.site.specs.declared.Mark.{Mark}
 use Rattle.site.specs.declared.Mark.TheVariants.{Yes, No}
 use Rattle.text.specs.Spaced.{spaced}
@@ -55,7 +55,7 @@ Misfit (Number limit) bs k = (k ≡ kind.Field) × NoNumber limit bs
 Misfit (Next count) bs k = ((k ≡ kind.Field) × NoNumber 4294967295 bs) ⊎ ((k ≡ kind.Node) × NotNext count bs)
 Misfit Keep bs k = (k ≡ kind.Field) × ((m : Mark) → bs ≢ mark_text m)
 Misfit Letter bs k = (k ≡ kind.Field) × ((a : Act) → bs ≢ letter_of a)
-Misfit Nodes bs k = (k ≡ kind.Field) × ((vs : List ℕ) → All (λ v. v ≤ 65535) vs → bs ≢ spaced vs)
+Misfit Nodes bs k = (k ≡ kind.Field) × ((vs : List ℕ) → AllByRecursion (λ v. v ≤ 65535) vs → bs ≢ spaced vs)
 Misfit Nothing bs k = (k ≡ kind.Field) × (bs ≢ [])
 Misfit Anything bs k = ⊥
 

@@ -1,6 +1,6 @@
 -- A store's answer, told by the ledger alone.
 use Rattle.std.proofs.Common.{◌≡◌, ℕ, ◌<◌, ◌≤◌, Bool, true, false, not, ◌||◌, eqb, ltb, leb, List, [], ◌∷◌, ◌++◌, map, length, take, drop, Some, None, Ok, Err, decimal, Option, Result, sym, refl, ap, ◌∙◌, subst, arith}
-use Rattle.std.specs.List.{ContainsAt as Has, AllByRecursion as All}
+use Rattle.std.specs.List.{ContainsAt as Has, AllByRecursion}
 use Rattle.std.proofs.lemmas.List.{take_all, take_at}
 use Rattle.std.proofs.lemmas.Bool.{true≢false, both_ways, or_parts, not-false, ltb-true, ltb-false, leb-false, and_parts, not-true, eqb-false, eq-eqb, or_left, or_right}
 use Rattle.site.specs.Site.{Site, node_rack}
@@ -41,7 +41,7 @@ last_one : (met : Bool) (n q : ℕ) → first ((met, n) ∷ []) ≡ Some q → m
 last_one true n q e = refl
 last_one false n q e = absurd (let z : ◌≡◌ {A = ℕ} 0 1 = cc in omega arith)
 
-all-every : (p : ℕ → Bool) (P : ℕ → Type 0) → ((v : ℕ) → p v ≡ true → P v) → (vs : List ℕ) → every p vs ≡ true → All P vs
+all-every : (p : ℕ → Bool) (P : ℕ → Type 0) → ((v : ℕ) → p v ≡ true → P v) → (vs : List ℕ) → every p vs ≡ true → AllByRecursion P vs
 all-every p P f [] h = tt
 all-every p P f (v ∷ vs) h = let q = and_parts (p v) (every p vs) h in (f v q.0, all-every p P f vs q.1)
 
@@ -55,7 +55,7 @@ has-nil x (k, low, at) = omega arith
 no-choice : (s : Site) (c : ℕ) (bs : List Copies) → none (choices s c bs) ≡ true → (us : List ℕ) → Choice s c bs us → ⊥
 no-choice s c bs h us choice = has-nil us (subst (λ (l : List (List ℕ)). Has l us) (none-nil (choices s c bs) h) ((choices-exact s c bs us).1 choice))
 
-away-from : (s : Site) (r : ℕ) (vs : List ℕ) → every (λ v. not (eqb (node_rack s v) r)) vs ≡ true → All (λ v. node_rack s v ≡ r → ⊥) vs
+away-from : (s : Site) (r : ℕ) (vs : List ℕ) → every (λ v. not (eqb (node_rack s v) r)) vs ≡ true → AllByRecursion (λ v. node_rack s v ≡ r → ⊥) vs
 away-from s r = all-every (λ v. not (eqb (node_rack s v) r)) (λ v. node_rack s v ≡ r → ⊥) (λ v t. eqb-false (node_rack s v) r (not-true (eqb (node_rack s v) r) t))
 
 -- where 24 is told, the block was due and there is no choice

@@ -2,7 +2,7 @@
 use Rattle.std.proofs.Common.{◌≡◌, ℕ, zero, suc, ◌+◌, ◌-◌, ◌^◌, ◌<◌, ◌≤◌, Bool, true, false, cond, List, [], ◌∷◌, ◌++◌, length, take, set, filter, sym, refl, ap, ◌∙◌, add-one, arith}
 use native.Mathlib.Nat.{min-le_left}
 use lib.Count.{ones}
-use Rattle.std.specs.List.{range_with_len, AllByRecursion as All}
+use Rattle.std.specs.List.{range_with_len, AllByRecursion}
 use Rattle.std.proofs.lemmas.List.FromFn.{length-range_with_len, get_or-range_with_len}
 use Rattle.std.proofs.lemmas.List.Elements.{filter-append}
 use Rattle.std.proofs.ByRecursion.{all_kept_by, All-from_get_or}
@@ -45,7 +45,7 @@ unfolding count_to
 count_none p = refl
 
 -- positions are at most 32, and as many as the word has ones
-pub positions-low : (w : ℕ) → All (λ p. p < 100) (positions w)
+pub positions-low : (w : ℕ) → AllByRecursion (λ p. p < 100) (positions w)
 unfolding positions
 positions-low w =
     all_kept_by (λ p. member w (p - 1)) (λ p. p < 100) (range_with_len 1 32)

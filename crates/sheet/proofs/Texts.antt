@@ -1,7 +1,7 @@
 -- The texts of rows and positions: one more at the end, and how long they are.
 use Rattle.std.proofs.Common.{◌≡◌, ℕ, ◌+◌, ◌-◌, ◌*◌, ◌^◌, ◌<◌, ◌≤◌, true, false, cond, eqb, List, [], ◌∷◌, ◌++◌, map, length, get_or, take, drop, decimal, sym, refl, ap, ◌∙◌, subst, append_assoc, append-nil, arith, length-append, length-take}
 use native.Mathlib.Nat.{min-le_left, min-le_right}
-use Rattle.std.specs.List.{flat_map, AllByRecursion as All, between}
+use Rattle.std.specs.List.{flat_map, AllByRecursion, between}
 use Rattle.std.proofs.lemmas.Fmt.{length-decimal-le}
 use Rattle.std.proofs.lemmas.List.{take_more, map-append}
 use Rattle.std.proofs.lemmas.Slice.{first_rest}
@@ -35,12 +35,12 @@ row-short (kind, number, node, rack) small low =
     ]
 
 -- numbers below 100 take three bytes each at most
-numbers-short : (vs : List ℕ) → All (λ v. v < 100) vs → length (flat_map (λ v. 32 ∷ decimal v) vs) ≤ 3 * length vs
+numbers-short : (vs : List ℕ) → AllByRecursion (λ v. v < 100) vs → length (flat_map (λ v. 32 ∷ decimal v) vs) ≤ 3 * length vs
 numbers-short [] h = omega arith
 numbers-short (v ∷ vs) h =
     omega (arith, length-append (decimal v) (flat_map (λ u. 32 ∷ decimal u) vs), numbers-short vs h.1, length-decimal-le 2 v (omega arith) h.0 (omega (arith, h.0)))
 
-pub spaced-short : (vs : List ℕ) → All (λ v. v < 100) vs → length (spaced vs) ≤ 3 * length vs
+pub spaced-short : (vs : List ℕ) → AllByRecursion (λ v. v < 100) vs → length (spaced vs) ≤ 3 * length vs
 spaced-short [] h = omega arith
 spaced-short (v ∷ vs) h =
     omega (arith, length-append (decimal v) (flat_map (λ u. 32 ∷ decimal u) vs), numbers-short vs h.1, length-decimal-le 2 v (omega arith) h.0 (omega (arith, h.0)))

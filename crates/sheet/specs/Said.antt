@@ -1,6 +1,6 @@
 -- What a call line says: a call of the ledger's, or a fault.
 use Rattle.std.specs.Prelude.{◌≡◌, ℕ, ◌+◌, ◌≤◌, cond, List, [], ◌∷◌, map, Some, Ok, Err, codes, decimal, Result, ◌==◌}
-use Rattle.std.specs.List.{AllByRecursion as All}
+use Rattle.std.specs.List.{AllByRecursion}
 use Rattle.text.specs.Faults.{Least}
 use Rattle.text.specs.Pieces.{parted}
 use Rattle.text.specs.Spaced.{spaced}
@@ -47,7 +47,7 @@ rest_field (abandon r) = []
 -- the calls that a sheet can make: none sets up or asks what stands, and 112 rows are lent
 abbrev pub Sheetly : Call → Type 0
 Sheetly (set_up n k c) = ⊥
-Sheetly (offer b vs) = All (λ v. v ≤ 65535) vs
+Sheetly (offer b vs) = AllByRecursion (λ v. v ≤ 65535) vs
 Sheetly (seal r v) = v ≤ 65535
 Sheetly (plan r rows) = rows ≡ 112
 Sheetly (deletions r rows) = rows ≡ 112

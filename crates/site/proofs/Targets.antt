@@ -1,7 +1,7 @@
 -- Target maps over one another, and the one whose targets are all racks.
 use Rattle.std.proofs.Common.{◌≡◌, ℕ, zero, suc, ◌/◌, ◌%◌, ◌^◌, ◌<◌, Bool, true, false, ◌&&◌, eqb, [], ◌∷◌, sym, refl, ap, ◌∙◌, ap₂, inl, inr, arith}
 use lib.Bits.{bit_and, and_shr, and_mod}
-use Rattle.std.specs.List.{AllByRecursion as All}
+use Rattle.std.specs.List.{AllByRecursion}
 use Rattle.std.proofs.lemmas.Nat.{mod_below}
 use Rattle.std.proofs.lemmas.Bool.{cases_eq, and_parts}
 use Rattle.site.specs.declared.Mark.{Mark}
@@ -51,7 +51,7 @@ pub member-all : (i : ℕ) → i < 32 → member 4294967295 i ≡ true
 unfolding all_to
 member-all i h = all-at 32 (member 4294967295) refl i h
 
-pub target-all : (s : Site) → All (λ p. p.0.0 < 32) s → target 4294967295 s ≡ s
+pub target-all : (s : Site) → AllByRecursion (λ p. p.0.0 < 32) s → target 4294967295 s ≡ s
 target-all [] h = refl
 target-all (p ∷ s) h =
     ap₂ (λ q qs. q ∷ qs) (ap (λ b. (p.0, marked p.1 b)) (member-all p.0.0 h.0)) (target-all s h.1)

@@ -2,7 +2,7 @@
 use Rattle.std.specs.Prelude.{◌≡◌, ℕ, zero, suc, ◌+◌, ◌*◌, ◌/◌, ◌<◌, ◌≤◌, Bool, true, false, cond, List, [], ◌∷◌, length, nat_lt, refl}
 use Rattle.std.proofs.Common.{arith}
 use Rattle.std.proofs.lemmas.List.{length-map}
-use Rattle.std.specs.List.{range_with_len, AllByRecursion as All}
+use Rattle.std.specs.List.{range_with_len, AllByRecursion}
 use Rattle.std.proofs.lemmas.Bool.{ltb-true}
 use Rattle.std.proofs.ByRecursion.{All-map, All-from_get_or}
 use Rattle.std.proofs.lemmas.List.FromFn.{length-map-range_with_len, length-range_with_len, get_or-range_with_len}
@@ -18,11 +18,11 @@ window-few (suc n) (p ∷ ps) =
     elim (nat_lt p.0.0 32) as (λ b. length (cond b (p ∷ window n ps) []) ≤ suc n)
     [ true ↦ omega (arith, window-few n ps) | false ↦ omega arith ]
 
-pub window-racked : (n : ℕ) (ps : List Place) → All (λ p. p.0.0 < 32) (window n ps)
+pub window-racked : (n : ℕ) (ps : List Place) → AllByRecursion (λ p. p.0.0 < 32) (window n ps)
 window-racked zero ps = tt
 window-racked (suc n) [] = tt
 window-racked (suc n) (p ∷ ps) =
-    let P : Bool → Type 0 = λ b. nat_lt p.0.0 32 ≡ b → All (λ q. q.0.0 < 32) (cond b (p ∷ window n ps) []) in
+    let P : Bool → Type 0 = λ b. nat_lt p.0.0 32 ≡ b → AllByRecursion (λ q. q.0.0 < 32) (cond b (p ∷ window n ps) []) in
     let both : (b : Bool) → P b = λ b. elim b as P [ true ↦ (λ q. (ltb-true p.0.0 32 q, window-racked n ps)) | false ↦ (λ q. tt) ] in
     both (nat_lt p.0.0 32) refl
 

@@ -1,6 +1,6 @@
 -- What a site map means: its nodes in order of their numbers, each with its rack and its keep mark.
 use Rattle.std.specs.Prelude.{ℕ, ◌<◌, ◌≤◌, Bool, true, false, List, length, Some, None, Option}
-use Rattle.std.specs.List.{AllByRecursion as All, slice_get}
+use Rattle.std.specs.List.{AllByRecursion, slice_get}
 use Rattle.site.specs.declared.Rack.{Rack}
 use Rattle.site.specs.declared.Mark.{Mark}
 use Rattle.site.specs.declared.Mark.TheVariants.{Yes, No}
@@ -31,4 +31,4 @@ keeps s v = elim (place s v) [ None ↦ false | Some p ↦ is_yes p.1 ]
 -- what every map shows of its meaning
 pub record Limits (s : Site) : Type 0 where
   pub few : length s ≤ 256
-  pub racked : All (λ p. p.0.0 < 32) s
+  pub racked : AllByRecursion (λ p. p.0.0 < 32) s

@@ -1,7 +1,7 @@
 -- A call that answers as the rules say at the ledger of a list of calls keeps the whole promise.
 use Rattle.std.proofs.Common.{◌≡◌, ℕ, ◌+◌, ◌-◌, ◌*◌, ◌<◌, ◌≤◌, Bool, true, false, not, ◌||◌, eqb, ltb, leb, List, [], ◌∷◌, ◌++◌, map, length, drop, is_ok, Some, None, Ok, Err, Option, Result, sym, refl, ap, ◌∙◌, subst, ⊎_elim, arith}
 use lib.Count.{ones}
-use Rattle.std.specs.List.{AllByRecursion as All}
+use Rattle.std.specs.List.{AllByRecursion}
 use Rattle.std.proofs.lemmas.List.{get_or_past, length-map}
 use Rattle.std.proofs.lemmas.Bool.{lt-ltb, le-ltb, lt-leb, ne_eqb, or_from, and_from, cases_lt}
 use Rattle.site.specs.Site.{Site, Limits, node_rack}
@@ -61,7 +61,7 @@ only-word NotSealed h = absurd (omega (arith, h))
 only-word StripeEmpty h = absurd (omega (arith, h))
 only-word FewRows h = absurd (omega (arith, h))
 
-all-every : {X : Type 0} (f : X → Bool) (P : X → Type 0) (xs : List X) → ((x : X) → P x → f x ≡ true) → All P xs → every f xs ≡ true
+all-every : {X : Type 0} (f : X → Bool) (P : X → Type 0) (xs : List X) → ((x : X) → P x → f x ≡ true) → AllByRecursion P xs → every f xs ≡ true
 all-every f P [] h a = refl
 all-every f P (x ∷ xs) h a = and_from (f x) (every f xs) (h x a.0) (all-every f P xs h a.1)
 
@@ -71,7 +71,7 @@ near l r x n e ne = ⊎_elim (λ h. h) (λ h. absurd (ne (sym e ∙ get_or_past 
 
 -- the ledger of a list of calls that has the code o
 module _ (s : Site) (limits : Limits s) (o : Code) (l : Ledger) (c : l.code ≡ Some o) (sound : Sound s l) where
-  both : CodeSound s o × All (StripeSound s o) l.stripes
+  both : CodeSound s o × AllByRecursion (StripeSound s o) l.stripes
   both = subst (λ t. CodedSound s t l.stripes) c sound.told
 
   code : CodeSound s o
@@ -140,7 +140,7 @@ module _ (s : Site) (limits : Limits s) (o : Code) (l : Ledger) (c : l.code ≡ 
         let long : length (plan_rows s (blocks_of (stripe l rack)) (plan_of (stripe l rack))) ≡ o.n = ap length same ∙ (plan-length s bs p ∙ whole rack bs p f) in
         (q.0 ∙ ap (λ n. Ok (Rows n)) long, q.1 ∙ (ap (λ n. plan_rows s (blocks_of (stripe l rack)) (plan_of (stripe l rack)) ++ map shown (drop n before)) long ∙ ap (λ x. x ++ map shown (drop o.n before)) same))
 
-    stands : (rack w : ℕ) (lost : List ℕ) (bs : List Block) (p : List ℕ) → call ≡ standing rack lost w → All (λ v. v < length s) lost → stripe l rack ≡ sealed bs p
+    stands : (rack w : ℕ) (lost : List ℕ) (bs : List Block) (p : List ℕ) → call ≡ standing rack lost w → AllByRecursion (λ v. v < length s) lost → stripe l rack ≡ sealed bs p
         → distinct s lost + o.c * ones w ≤ o.n - o.k
         → (r ≡ Ok (Standing (stand s p lost w))) × (length p ≡ o.n) × (o.k ≤ stand s p lost w)
     stands rack w lost bs p e m f few =

@@ -1,7 +1,7 @@
 -- What the ledger of every list of calls is: its code within the limits and with space for it, every stripe's blocks well formed and
 -- with a choice, and every plan that of its blocks.
 use Rattle.std.proofs.Common.{◌≡◌, ℕ, zero, suc, ◌<◌, ◌≤◌, Bool, true, false, cond, not, ◌||◌, eqb, ltb, List, [], ◌∷◌, ◌++◌, length, get_or, set, replicate, Some, None, fold, Option, sym, refl, ap, ◌∙◌, subst, arith}
-use Rattle.std.specs.List.{AllByRecursion as All}
+use Rattle.std.specs.List.{AllByRecursion}
 use Rattle.std.proofs.ByRecursion.{All-set, All-push}
 use Rattle.std.proofs.lemmas.List.{length-set, length_push, map_push}
 use Rattle.std.proofs.lemmas.Bool.{ltb-true, ltb-false, leb-false, eqb-false, not-true, not-false, and_parts, or_parts, true≢false}
@@ -23,7 +23,7 @@ pub record CodeSound (s : Site) (o : Code) : Type 0 where
 
 pub record BlocksSound (s : Site) (o : Code) (bs : List Block) : Type 0 where
   pub few : length bs ≤ o.k
-  pub formed : All (λ b. WellFormed s b.copies) bs
+  pub formed : AllByRecursion (λ b. WellFormed s b.copies) bs
   pub choice : choices s o.c (copies_of bs) ≡ [] → ⊥
 
 -- a plan of its blocks from some start node on the map
@@ -37,23 +37,23 @@ StripeSound s o (sealed bs p) = (length bs ≡ o.k) × BlocksSound s o bs × Pla
 
 abbrev pub CodedSound : Site → Option Code → List Stripe → Type 0
 CodedSound s None ss = ss ≡ replicate 32 empty
-CodedSound s (Some o) ss = CodeSound s o × All (StripeSound s o) ss
+CodedSound s (Some o) ss = CodeSound s o × AllByRecursion (StripeSound s o) ss
 
 pub record Sound (s : Site) (l : Ledger) : Type 0 where
   pub long : length l.stripes ≡ 32
   pub told : CodedSound s l.code l.stripes
 
 -- lists whose elements all pass
-pub all-or : {X : Type 0} (P : X → Type 0) (xs : List X) (i : ℕ) (d : X) → P d → All P xs → P (get_or xs i d)
+pub all-or : {X : Type 0} (P : X → Type 0) (xs : List X) (i : ℕ) (d : X) → P d → AllByRecursion P xs → P (get_or xs i d)
 all-or P [] i d p h = p
 all-or P (x ∷ xs) zero d p h = h.0
 all-or P (x ∷ xs) (suc i) d p h = all-or P xs i d p h.1
 
-pub all_same : {X : Type 0} (P : X → Type 0) (n : ℕ) (x : X) → P x → All P (replicate n x)
+pub all_same : {X : Type 0} (P : X → Type 0) (n : ℕ) (x : X) → P x → AllByRecursion P (replicate n x)
 all_same P zero x p = tt
 all_same P (suc n) x p = (p, all_same P n x p)
 
-pub every-all : {X : Type 0} (f : X → Bool) (P : X → Type 0) (xs : List X) → ((x : X) → f x ≡ true → P x) → every f xs ≡ true → All P xs
+pub every-all : {X : Type 0} (f : X → Bool) (P : X → Type 0) (xs : List X) → ((x : X) → f x ≡ true → P x) → every f xs ≡ true → AllByRecursion P xs
 every-all f P [] h e = tt
 every-all f P (x ∷ xs) h e = let p = and_parts (f x) (every f xs) e in (h x p.0, every-all f P xs h p.1)
 
@@ -78,7 +78,7 @@ some_first [] e f = true≢false e
 some_first (x ∷ xs) e f = let z : ◌≡◌ {A = ℕ} 0 1 = cc in omega arith
 
 module _ (s : Site) where
-  pub formed-of : (o : Code) (x : Stripe) → StripeSound s o x → All (λ b. WellFormed s b.copies) (blocks_of x)
+  pub formed-of : (o : Code) (x : Stripe) → StripeSound s o x → AllByRecursion (λ b. WellFormed s b.copies) (blocks_of x)
   formed-of o empty h = tt
   formed-of o (filling bs) h = h.1.formed
   formed-of o (sealed bs p) h = h.1.formed
@@ -114,7 +114,7 @@ module _ (s : Site) where
       (formed-by vs a3.0 a4.0 a5.0 a6.0, leb-false o.k (length (blocks_of (stripe l (core s vs)))) a23.0, some_first _ a23.1.0)
 
   -- one record is another
-  put-sound : (o : Code) (l : Ledger) (r : ℕ) (x : Stripe) → l.code ≡ Some o → length l.stripes ≡ 32 → CodeSound s o → All (StripeSound s o) l.stripes → StripeSound s o x → Sound s (put l r x)
+  put-sound : (o : Code) (l : Ledger) (r : ℕ) (x : Stripe) → l.code ≡ Some o → length l.stripes ≡ 32 → CodeSound s o → AllByRecursion (StripeSound s o) l.stripes → StripeSound s o x → Sound s (put l r x)
   put-sound o l r x c n k h p = record {
     long = length-set l.stripes r x ∙ n;
     told = subst (λ t. CodedSound s t (set l.stripes r x)) (sym c) (k, All-set (StripeSound s o) l.stripes r x p h);
@@ -128,7 +128,7 @@ module _ (s : Site) where
   seal-sound o (sealed bs p) v k h n e m = absurd (true≢false n)
 
   module _ (l : Ledger) (n : length l.stripes ≡ 32) where
-    sound-noted : (o : Code) (call : Call) → l.code ≡ Some o → CodeSound s o → All (StripeSound s o) l.stripes → Sound s l → first (checks s o l call) ≡ None → Sound s (noted s o l call)
+    sound-noted : (o : Code) (call : Call) → l.code ≡ Some o → CodeSound s o → AllByRecursion (StripeSound s o) l.stripes → Sound s l → first (checks s o l call) ≡ None → Sound s (noted s o l call)
     sound-noted o (set_up m k c) e q h all e' = absurd (met-none 21 e')
     sound-noted o (offer b vs) e q h all e' =
         let f = offer-formed o l b vs e' in
@@ -166,7 +166,7 @@ module _ (s : Site) where
         let o : Code = record { n = m; k = k; c = c } in
         record {
           long = n;
-          told = (record { limits = within m k c a1.0; roomy = ltb-false (space s c) m a2.0 }, subst (All (StripeSound s o)) (sym z) (all_same (StripeSound s o) 32 empty tt));
+          told = (record { limits = within m k c a1.0; roomy = ltb-false (space s c) m a2.0 }, subst (AllByRecursion (StripeSound s o)) (sym z) (all_same (StripeSound s o) 32 empty tt));
         }
     sound-coded (offer b vs) z e = absurd (met-none 20 e)
     sound-coded (seal r v) z e = absurd (met-none 20 e)

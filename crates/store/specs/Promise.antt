@@ -1,6 +1,6 @@
 -- What a store owes of a call made after any list of calls.
 use Rattle.std.specs.Prelude.{◌≡◌, ℕ, ◌+◌, ◌-◌, ◌*◌, ◌<◌, ◌≤◌, true, false, List, [], ◌∷◌, ◌++◌, map, length, drop, is_ok, Some, Ok, Err, Result, ◌≢◌, count_ones}
-use Rattle.std.specs.List.{AllByRecursion as All}
+use Rattle.std.specs.List.{AllByRecursion}
 use Rattle.site.specs.Site.{Site, node_rack}
 use Rattle.choices.specs.Choice.{Copies, Choice, apart}
 use Rattle.choices.specs.Tight.{LeastTight}
@@ -18,9 +18,9 @@ use Rattle.store.specs.Answers.{shown, plan_rows}
 pub record WellFormed (s : Site) (vs : Copies) : Type 0 where
   pub enough : 2 ≤ length vs
   pub few : length vs ≤ 8
-  pub present : All (λ v. v < length s) vs
+  pub present : AllByRecursion (λ v. v < length s) vs
   pub differ : apart vs ≡ true
-  pub away : All (λ v. node_rack s v ≢ core s vs) (rest vs)
+  pub away : AllByRecursion (λ v. node_rack s v ≢ core s vs) (rest vs)
 
 -- a well-formed new block for a stripe below k blocks
 pub record Due (s : Site) (o : Code) (l : Ledger) (b : ℕ) (vs : Copies) : Type 0 where
@@ -47,7 +47,7 @@ pub record Kept (s : Site) (o : Code) (l : Ledger) (call : Call) (r : Result Ans
   pub writes : (rack : ℕ) (bs : List Block) (p : List ℕ) → call ≡ plan rack (length before) → stripe l rack ≡ sealed bs p → o.n ≤ length before
       → (r ≡ Ok (Rows o.n)) × (map shown after ≡ plan_rows s bs p ++ map shown (drop o.n before))
   -- whichever nodes and racks are lost within the code's margin, standing tells the plan's count, and at least k of the n planned blocks stand
-  pub stands : (rack w : ℕ) (lost : List ℕ) (bs : List Block) (p : List ℕ) → call ≡ standing rack lost w → All (λ v. v < length s) lost → stripe l rack ≡ sealed bs p
+  pub stands : (rack w : ℕ) (lost : List ℕ) (bs : List Block) (p : List ℕ) → call ≡ standing rack lost w → AllByRecursion (λ v. v < length s) lost → stripe l rack ≡ sealed bs p
       → distinct s lost + o.c * count_ones w ≤ o.n - o.k
       → (r ≡ Ok (Standing (stand s p lost w))) × (length p ≡ o.n) × (o.k ≤ stand s p lost w)
 

@@ -1,6 +1,6 @@
 -- The lists that are read are those whose text the bytes are.
 use Rattle.std.proofs.Common.{◌≡◌, ℕ, ◌≤◌, true, false, cond, List, [], ◌∷◌, ◌++◌, map, Some, None, decimal, Option, sym, refl, ap, ◌∙◌, subst, arith}
-use Rattle.std.specs.List.{flat_map, AllByRecursion as All}
+use Rattle.std.specs.List.{flat_map, AllByRecursion}
 use Rattle.std.specs.Str.Parse.{digits_value}
 use Rattle.std.proofs.lemmas.Fmt.{decimal_nonempty}
 use Rattle.std.proofs.ByRecursion.{All-from_get_or}
@@ -22,15 +22,15 @@ spaced-glued (v ∷ vs) = ap (λ l. decimal v ++ l) (further-glued vs)
 digits-free : (v : ℕ) → v ≤ 65535 → Free 32 (decimal v)
 digits-free v h = All-from_get_or (λ b. b ≡ 32 → ⊥) (decimal v) 0 (λ i l e. omega (arith, all_digits (decimal v) v (omega arith) refl i l))
 
-all-free : (vs : List ℕ) → All (λ v. v ≤ 65535) vs → All (Free 32) (map decimal vs)
+all-free : (vs : List ℕ) → AllByRecursion (λ v. v ≤ 65535) vs → AllByRecursion (Free 32) (map decimal vs)
 all-free [] h = tt
 all-free (v ∷ vs) h = (digits-free v h.0, all-free vs h.1)
 
-pub parted-spaced : (vs : List ℕ) → All (λ v. v ≤ 65535) vs → parted 32 (spaced vs) ≡ map decimal vs
+pub parted-spaced : (vs : List ℕ) → AllByRecursion (λ v. v ≤ 65535) vs → parted 32 (spaced vs) ≡ map decimal vs
 parted-spaced [] h = refl
 parted-spaced (v ∷ vs) h = ap (parted 32) (spaced-glued (v ∷ vs)) ∙ parted-glued 32 (decimal v) (map decimal vs) (decimal_nonempty v (omega (arith, h.0))) (digits-free v h.0) (all-free vs h.1)
 
-pub reads-back : (vs : List ℕ) → All (λ v. v ≤ 65535) vs → numbers_in 65535 (map decimal vs) ≡ Some vs
+pub reads-back : (vs : List ℕ) → AllByRecursion (λ v. v ≤ 65535) vs → numbers_in 65535 (map decimal vs) ≡ Some vs
 reads-back [] h = refl
 reads-back (v ∷ vs) h = (λ k. headed (sym (exact-is 65535 (decimal v) (Some v) (omega arith) (h.0, refl)) k) (reads-back vs h.1 k))
 
@@ -47,16 +47,16 @@ number-some bs v e =
       | false ↦ λ t e. absurd (never v (sym e))
     ] refl e
 
-words_are : (ws : List (List ℕ)) (vs : List ℕ) → numbers_in 65535 ws ≡ Some vs → All (λ v. v ≤ 65535) vs × (ws ≡ map decimal vs)
-words_are [] vs e = subst (λ us. All (λ v. v ≤ 65535) us × ([] ≡ map decimal us)) (same_some [] vs e) (tt, refl)
+words_are : (ws : List (List ℕ)) (vs : List ℕ) → numbers_in 65535 ws ≡ Some vs → AllByRecursion (λ v. v ≤ 65535) vs × (ws ≡ map decimal vs)
+words_are [] vs e = subst (λ us. AllByRecursion (λ v. v ≤ 65535) us × ([] ≡ map decimal us)) (same_some [] vs e) (tt, refl)
 words_are (w ∷ ws) vs e = step (words_are ws) (number_in 65535 w) (numbers_in 65535 ws) refl refl e where
-  step : ((us : List ℕ) → numbers_in 65535 ws ≡ Some us → All (λ v. v ≤ 65535) us × (ws ≡ map decimal us)) → (a : Option ℕ) (o : Option (List ℕ)) → number_in 65535 w ≡ a → numbers_in 65535 ws ≡ o → headed a o ≡ Some vs → All (λ v. v ≤ 65535) vs × (w ∷ ws ≡ map decimal vs)
+  step : ((us : List ℕ) → numbers_in 65535 ws ≡ Some us → AllByRecursion (λ v. v ≤ 65535) us × (ws ≡ map decimal us)) → (a : Option ℕ) (o : Option (List ℕ)) → number_in 65535 w ≡ a → numbers_in 65535 ws ≡ o → headed a o ≡ Some vs → AllByRecursion (λ v. v ≤ 65535) vs × (w ∷ ws ≡ map decimal vs)
   step more None o p q e = absurd (never vs (sym e))
   step more (Some u) None p q e = absurd (never vs (sym e))
   step more (Some u) (Some us) p q e =
       let here = number-some w u p in
       let rest = more us q in
-      subst (λ l. All (λ v. v ≤ 65535) l × (w ∷ ws ≡ map decimal l)) (same_some (u ∷ us) vs e) ((here.0, rest.0), (λ k. here.1 k ∷ rest.1 k))
+      subst (λ l. AllByRecursion (λ v. v ≤ 65535) l × (w ∷ ws ≡ map decimal l)) (same_some (u ∷ us) vs e) ((here.0, rest.0), (λ k. here.1 k ∷ rest.1 k))
 
 pub listed : (bs : List ℕ) → Listed bs (node_list_in bs)
 listed bs = by (node_list_in bs) refl where

@@ -1,6 +1,6 @@
 -- The order that is found is an order of the fields' names; and where the names differ, every such order is found.
 use Rattle.std.proofs.Common.{◌≡◌, ℕ, zero, suc, ◌+◌, ◌<◌, true, false, cond, ◌&&◌, eqb, ◌⊎◌, List, [], ◌∷◌, map, length, get_or, Some, None, Option, sym, refl, ap, ◌∙◌, subst, inl, inr, ⊎_elim, arith}
-use Rattle.std.specs.List.{AllByRecursion as All}
+use Rattle.std.specs.List.{AllByRecursion}
 use Rattle.std.specs.Str.{bytes_eq}
 use Rattle.std.proofs.lemmas.Slice.Eq.{bytes_eq-Decides}
 use Rattle.std.proofs.lemmas.Bool.{and_parts, eqb-true, eq-eqb}
@@ -51,22 +51,22 @@ index_of text ns i e =
       zeroth j = omega arith
 
 Named : List (List ℕ) → List (List ℕ) → List ℕ → Type 0
-Named ns fs is = All (λ i. i < length ns) is × (fs ≡ map (λ i. get_or ns i []) is)
+Named ns fs is = AllByRecursion (λ i. i < length ns) is × (fs ≡ map (λ i. get_or ns i []) is)
 
 named : (ns fs : List (List ℕ)) (is : List ℕ) → indices ns fs ≡ Some is → Named ns fs is
 unfolding Named
-named ns [] is e = subst (λ l. All (λ i. i < length ns) l × ([] ≡ map (λ i. get_or ns i []) l)) (same_some _ _ e) (tt, refl)
+named ns [] is e = subst (λ l. AllByRecursion (λ i. i < length ns) l × ([] ≡ map (λ i. get_or ns i []) l)) (same_some _ _ e) (tt, refl)
 named ns (f ∷ fs) is e = step (named ns fs) (index_from 0 f ns) (indices ns fs) refl refl e where
-  step : ((us : List ℕ) → indices ns fs ≡ Some us → All (λ i. i < length ns) us × (fs ≡ map (λ i. get_or ns i []) us)) → (a : Option ℕ) (o : Option (List ℕ)) → index_from 0 f ns ≡ a → indices ns fs ≡ o → headed a o ≡ Some is → All (λ i. i < length ns) is × (f ∷ fs ≡ map (λ i. get_or ns i []) is)
+  step : ((us : List ℕ) → indices ns fs ≡ Some us → AllByRecursion (λ i. i < length ns) us × (fs ≡ map (λ i. get_or ns i []) us)) → (a : Option ℕ) (o : Option (List ℕ)) → index_from 0 f ns ≡ a → indices ns fs ≡ o → headed a o ≡ Some is → AllByRecursion (λ i. i < length ns) is × (f ∷ fs ≡ map (λ i. get_or ns i []) is)
   step more None o p q e = absurd (never is (sym e))
   step more (Some i) None p q e = absurd (never is (sym e))
   step more (Some i) (Some us) p q e =
       let here = index_of f ns i p in
       let rest = more us q in
-      subst (λ l. All (λ i. i < length ns) l × (f ∷ fs ≡ map (λ i. get_or ns i []) l)) (same_some _ _ e) ((here.0, rest.0), (λ k. here.1 k ∷ rest.1 k))
+      subst (λ l. AllByRecursion (λ i. i < length ns) l × (f ∷ fs ≡ map (λ i. get_or ns i []) l)) (same_some _ _ e) ((here.0, rest.0), (λ k. here.1 k ∷ rest.1 k))
 
 -- where the names differ, the order of some of them is found from their texts
-found : (ns : List (List ℕ)) (is : List ℕ) → Apart ns → All (λ i. i < length ns) is → indices ns (map (λ i. get_or ns i []) is) ≡ Some is
+found : (ns : List (List ℕ)) (is : List ℕ) → Apart ns → AllByRecursion (λ i. i < length ns) is → indices ns (map (λ i. get_or ns i []) is) ≡ Some is
 found ns [] apart h = refl
 found ns (i ∷ is) apart h = (λ k. headed (at i h.0 k) (found ns is apart h.1 k)) where
   at : (i : ℕ) → i < length ns → index_from 0 (get_or ns i []) ns ≡ Some i

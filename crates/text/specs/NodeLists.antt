@@ -1,6 +1,6 @@
 -- Node lists as a sheet writes them: numbers up to 65535 with single spaces between; an empty text is the empty list.
 use Rattle.std.specs.Prelude.{◌≡◌, ℕ, zero, suc, ◌≤◌, List, [], ◌∷◌, length, Some, None, Option, MatchOption, ◌≢◌}
-use Rattle.std.specs.List.{AllByRecursion as All}
+use Rattle.std.specs.List.{AllByRecursion}
 use Rattle.text.specs.declared.nodes.NodeList.{NodeList}
 use Rattle.text.specs.Numbers.{number_in}
 use Rattle.text.specs.Pieces.{parted}
@@ -32,4 +32,4 @@ kept (Some vs) = Some (record { nodes = padded 8 vs; len = length vs })
 
 -- the list of nodes up to 65535 whose text the bytes are, or that there is none
 abbrev pub Listed : List ℕ → Option (List ℕ) → Type 0
-Listed bs r = MatchOption r ((vs : List ℕ) → All (λ v. v ≤ 65535) vs → bs ≢ spaced vs) (λ vs. All (λ v. v ≤ 65535) vs × (bs ≡ spaced vs))
+Listed bs r = MatchOption r ((vs : List ℕ) → AllByRecursion (λ v. v ≤ 65535) vs → bs ≢ spaced vs) (λ vs. AllByRecursion (λ v. v ≤ 65535) vs × (bs ≡ spaced vs))

@@ -1,7 +1,7 @@
 -- Names lines: which name each field is, where the fields are the names in some order.
 use Rattle.std.specs.Prelude.{◌≡◌, ℕ, ◌+◌, ◌<◌, Bool, true, false, cond, not, ◌&&◌, ◌||◌, List, [], ◌∷◌, map, length, get_or, Some, None, Option, MatchOption, ◌==◌, slice_index_or}
 use Rattle.std.specs.Borrow.{Bor}
-use Rattle.std.specs.List.{AllByRecursion as All}
+use Rattle.std.specs.List.{AllByRecursion}
 use Rattle.std.specs.Str.{bytes_eq}
 use Rattle.text.specs.NodeLists.{headed}
 
@@ -39,7 +39,7 @@ order_of n ns fs = complete n (indices ns fs)
 pub record Order (n : ℕ) (ns fs : List (List ℕ)) (is : List ℕ) : Type 0 where
   pub all : length is ≡ n
   pub once : distinct is ≡ true
-  pub names : All (λ i. i < length ns) is
+  pub names : AllByRecursion (λ i. i < length ns) is
   pub fields : fs ≡ map (λ i. get_or ns i []) is
 
 -- no two names are the same

@@ -1,6 +1,6 @@
 -- What is left has the listing's faults, and with its places those in the table are the listing's.
 use Rattle.std.proofs.Common.{◌≡◌, ◌<◌, ◌≤◌, List, ◌++◌, length, take, drop}
-use Rattle.std.specs.List.{AllByRecursion as All}
+use Rattle.std.specs.List.{AllByRecursion}
 use Rattle.site.specs.Site.{Place}
 use Rattle.text.specs.Rows.{left_of}
 use Rattle.reader.specs.Listings.{NodesFault, NodesText, past_part, past_number}
@@ -16,7 +16,7 @@ invariant-loop-line l =
     × (past_number l.lines.number (left_of l.lines) ≡ past_number l.initial.lines.number (left_of l.initial.lines))
     × (l.count ≤ 256)
     × (length l.table ≡ 256)
-    × All (λ p. p.0.0 < 32) (take l.count l.table)
+    × AllByRecursion (λ p. p.0.0 < 32) (take l.count l.table)
 
 abbrev pub decreases-loop-line : goal.decreases-loop-line
 decreases-loop-line l = length (left_of l.lines)
