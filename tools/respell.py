@@ -84,7 +84,21 @@ def turned_line(line, is_source):
     return "".join(out) + NAME.sub(lambda m: respelled(m.group()), line[at:]) + commented(rest)
 
 
+# The library keeps its plain words for itself: what was brought in under one goes by its own name.
+ALIASED = {"AllByRecursion as All": ("All", "AllByRecursion")}
+
+
+def unaliased(text):
+    for alias, (short, name) in ALIASED.items():
+        if alias in text:
+            text = text.replace(alias, name)
+            word = re.compile(rf"(?<![\w'\-.]){short}(?![\w'\-])")
+            text = "\n".join(l if l.strip().startswith(("--", "//")) else word.sub(name, l) for l in text.split("\n"))
+    return text
+
+
 def turned(text, is_source):
+    text = unaliased(text)
     return "\n".join(turned_line(line, is_source) for line in text.split("\n"))
 
 
