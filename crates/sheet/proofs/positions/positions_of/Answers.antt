@@ -19,11 +19,11 @@ loop-i-preserved c =
       | then-word-i-eq1 v ↦
           let yes : member w i ≡ true = eq-eqb _ _ v.if-word-i-eq1.true in
           let more : count_to (i + 1) (member w) ≡ 1 + count_to i (member w) = count-more (member w) i ∙ ap (λ b. cond b 1 0 + count_to i (member w)) yes in
-          rw (v.places-is, v.count_is) (places-more places w n i (omega arith) yes c.loop-i.invariant.0, omega arith, omega arith, length-set places n (i + 1) ∙ c.loop-i.invariant.3)
+          rw (v.places-is, v.count-is) (places-more places w n i (omega arith) yes c.loop-i.invariant.0, omega arith, omega arith, length-set places n (i + 1) ∙ c.loop-i.invariant.3)
       | else-word-i-eq1 v ↦
           let no : member w i ≡ false = ne_eqb _ _ v.if-word-i-eq1.false in
           let more : count_to (i + 1) (member w) ≡ 0 + count_to i (member w) = count-more (member w) i ∙ ap (λ b. cond b 1 0 + count_to i (member w)) no in
-          rw (v.places-is, v.count_is) (c.loop-i.invariant.0 ∙ sym (up-no w i no), omega arith, omega arith, c.loop-i.invariant.3)
+          rw (v.places-is, v.count-is) (c.loop-i.invariant.0 ∙ sym (up-no w i no), omega arith, omega arith, c.loop-i.invariant.3)
     ]
 
 pub returns : goal.returns

@@ -24,8 +24,8 @@ loop-v-preserved g c =
     let m = count-more f p i c.stands.result h (c.stands.ensures ∙ ap f (sym at.1)) in
     let old = c.loop-v.invariant in
     elim c.if-stands.branch [
-      | then-stands w ↦ (let k : cond {A = ℕ} c.stands.result 1 0 ≡ 1 = ap (λ b. cond b 1 0) w.if-stands.true in (omega (arith, w.count_is, old.0, m, k), omega (arith, w.count_is, old.1)))
-      | else-stands w ↦ (let k : cond {A = ℕ} c.stands.result 1 0 ≡ 0 = ap (λ b. cond b 1 0) w.if-stands.false in (omega (arith, w.count_is, old.0, m, k), omega (arith, w.count_is, old.1)))
+      | then-stands w ↦ (let k : cond {A = ℕ} c.stands.result 1 0 ≡ 1 = ap (λ b. cond b 1 0) w.if-stands.true in (omega (arith, w.count-is, old.0, m, k), omega (arith, w.count-is, old.1)))
+      | else-stands w ↦ (let k : cond {A = ℕ} c.stands.result 1 0 ≡ 0 = ap (λ b. cond b 1 0) w.if-stands.false in (omega (arith, w.count-is, old.0, m, k), omega (arith, w.count-is, old.1)))
     ]
 
 pub returns : goal.returns
