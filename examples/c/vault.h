@@ -1,5 +1,5 @@
-/* The vault library for C and C++. `rt staticlib capi` writes target/staticlib/libcapi.a; link the toolchain's librattle_c.a
- * beside it.
+/* The vault library for C and C++. `rt lib`, in the folder of the crate `capi`, writes out/libcapi.a there; nothing has to be
+ * linked beside it.
  *
  * No function allocates, keeps a pointer, or keeps anything between calls. Each takes any numbers; what it cannot answer it
  * refuses by number and leaves the caller's memory as it was. A pointer has to point to as many entries as the length after
