@@ -1,8 +1,9 @@
 // Making a block, and reading it.
-ghost use Rattle.std.specs.Prelude.{◌≡◌, ℕ, ◌<◌, ◌≤◌, List, [], ◌∷◌, map, length, MatchOption};
-ghost use Rattle.blocks.specs.Blocks.{copies_of, numbers};
+ghost use Rattle.std.specs.Prelude.{◌≡◌, ◌≤◌, length, MatchOption};
+ghost use Rattle.blocks.specs.Blocks.{copies_of, numbers, blank_block};
 
-use crate::block::{Block, COPIES, FEWEST};
+use crate::block::{Block, FEWEST};
+use fixed::list::{Blank, FixedList};
 use site::Node;
 
 impl Block {
@@ -10,29 +11,11 @@ impl Block {
     pub fn new(number: u32, nodes: &[Node]) -> Option<Block>
         ensures { MatchOption result ((2 ≤ length nodes.now) × (length nodes.now ≤ 8) → ⊥) (λ b. (b.number ≡ number) × (copies_of b ≡ numbers nodes.now)) }
     {
-        if nodes.len() < FEWEST || nodes.len() > COPIES {
+        if nodes.len() < FEWEST {
             return None;
         }
-        let mut own = [Node(0); 8];
-        for (i, v) in nodes.iter().enumerate() {
-            own[i] = *v;
-        }
-        Some(Block {
-            number,
-            nodes: own,
-            len: nodes.len(),
-        })
-    }
-
-    /// A block that stands in unused entries of a table.
-    pub fn blank() -> Block
-        ensures { (result.number ≡ 0) × (copies_of result ≡ 0 ∷ 0 ∷ []) }
-    {
-        Block {
-            number: 0,
-            nodes: [Node(0); 8],
-            len: FEWEST,
-        }
+        let nodes = FixedList::try_from(nodes).ok()?;
+        Some(Block { number, nodes })
     }
 
     pub fn number(&self) -> u32
@@ -43,8 +26,21 @@ impl Block {
 
     /// The nodes that hold its copies, in the writer's order.
     pub fn nodes(&self) -> &[Node]
-        ensures { numbers result.now ≡ copies_of self.now }
+        ensures value { numbers result.now ≡ copies_of self.now }
+        ensures few { length result.now ≤ 8 }
     {
-        &self.nodes[0..self.len]
+        self.nodes.as_slice()
+    }
+}
+
+/// A block that stands in unused places of a list.
+impl Blank for Block {
+    ghost blank = { blank_block };
+
+    fn blank() -> Block {
+        let mut nodes = FixedList::new();
+        let _ = nodes.push(Node(0));
+        let _ = nodes.push(Node(0));
+        Block { number: 0, nodes }
     }
 }

@@ -3,8 +3,6 @@
 #![tactic(auto)]
 
 pub mod block;
-pub mod block_list;
 pub mod blocks;
 pub mod code;
 pub mod lists;
-pub mod node_list;

@@ -3,57 +3,41 @@ ghost use Rattle.choices.specs.Choice.{ChoicesExact, HeadFirst};
 ghost use Rattle.choices.specs.Order.{EmptyExact, FirstHead, FirstUnique, NarrowEnds, NarrowKeeps, YesEnough};
 
 /// The list of choices holds the choices and nothing else.
-pub fn choices_exact() -> u8
+pub fn choices_exact()
     ensures { ChoicesExact }
-{
-    0
-}
+{}
 
 /// It is empty exactly where there is no choice.
-pub fn empty_exact() -> u8
+pub fn empty_exact()
     ensures { EmptyExact }
-{
-    0
-}
+{}
 
 /// Its head is the first choice.
-pub fn head_first() -> u8
+pub fn head_first()
     ensures { HeadFirst }
-{
-    0
-}
+{}
 
 /// There is one first choice at most.
-pub fn first_unique() -> u8
+pub fn first_unique()
     ensures { FirstUnique }
-{
-    0
-}
+{}
 
 /// The first choice is the head of the list.
-pub fn first_head() -> u8
+pub fn first_head()
     ensures { FirstHead }
-{
-    0
-}
+{}
 
 /// No other node than the yes nodes counts.
-pub fn yes_enough() -> u8
+pub fn yes_enough()
     ensures { YesEnough }
-{
-    0
-}
+{}
 
 /// To narrow a list to its earliest node that leaves a choice keeps the first choice.
-pub fn narrow_keeps() -> u8
+pub fn narrow_keeps()
     ensures { NarrowKeeps }
-{
-    0
-}
+{}
 
 /// Where every list has one node, a choice is the first.
-pub fn narrow_ends() -> u8
+pub fn narrow_ends()
     ensures { NarrowEnds }
-{
-    0
-}
+{}

@@ -2,29 +2,21 @@
 ghost use Rattle.choices.specs.Survive.{LossesBounded, ParityFull, PlanSurvives, PlannedFull};
 
 /// Where the site has space for n blocks, the parity nodes never run out, and all planned nodes keep the rules.
-pub fn parity_full() -> u8
+pub fn parity_full()
     ensures { ParityFull }
-{
-    0
-}
+{}
 
 /// A stripe that has a choice has a plan of n nodes that keep the rules.
-pub fn planned_full() -> u8
+pub fn planned_full()
     ensures { PlannedFull }
-{
-    0
-}
+{}
 
 /// With each lost node goes at most one planned block, and with each lost rack at most c.
-pub fn losses_bounded() -> u8
+pub fn losses_bounded()
     ensures { LossesBounded }
-{
-    0
-}
+{}
 
 /// As many blocks as the stripe has stand while the losses are within the parity.
-pub fn plan_survives() -> u8
+pub fn plan_survives()
     ensures { PlanSurvives }
-{
-    0
-}
+{}

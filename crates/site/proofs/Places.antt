@@ -1,13 +1,13 @@
 -- What the meanings of the three maps have at a node.
-use Rattle.std.proofs.Common.{◌≡◌, ℕ, zero, suc, ◌+◌, ◌-◌, ◌*◌, ◌/◌, ◌<◌, ◌≤◌, true, false, cond, ltb, List, [], ◌∷◌, map, length, get_or, take, drop, Some, None, refl, ap, ◌∙◌, arith}
-use Rattle.std.specs.List.{AllByRecursion, slice_get}
+use Rattle.std.proofs.Common.{◌≡◌, ℕ, zero, suc, ◌*◌, ◌/◌, ◌<◌, ◌≤◌, Bool, true, false, cond, ltb, List, [], ◌∷◌, map, length, take, Some, None, Option, sym, refl, subst, ap, ◌∙◌, arith}
+use Rattle.std.specs.List.{AllByRecursion, AllWithin, HoldsAt, slice_get}
+use Rattle.std.specs.Option.{MatchOption, unwrap_or}
 use Rattle.std.proofs.lemmas.Bool.{lt-ltb, le-ltb}
 use Rattle.std.proofs.lemmas.List.FromFn.{length-map-range_with_len, get_or-map-range_with_len}
 use Rattle.std.proofs.lemmas.Option.{slice_get-get_or, slice_get_past}
-use Rattle.std.proofs.lemmas.List.{get_or-take, drop_more, drop_all}
 use Rattle.site.specs.declared.Mark.TheVariants.{Yes}
 use Rattle.site.specs.Site.{Place}
-use Rattle.site.specs.Maps.{window, regular, listed}
+use Rattle.site.specs.Maps.{window, regular}
 
 module _ {X : Type 0} where
   pub all-nth : (P : X → Type 0) (xs : List X) (i : ℕ) (x : X) → AllByRecursion P xs → slice_get xs i ≡ Some x → P x
@@ -25,20 +25,6 @@ module _ {X : Type 0} where
   nth-map-none f (y ∷ ys) zero e = cc
   nth-map-none f (y ∷ ys) (suc i) e = nth-map-none f ys i e
 
-pub window-take : (n : ℕ) (ps : List Place) → window n ps ≡ take (length (window n ps)) ps
-window-take zero ps = refl
-window-take (suc n) [] = refl
-window-take (suc n) (p ∷ ps) =
-    elim (ltb p.0.0 32) as (λ b. cond b (p ∷ window n ps) [] ≡ take (length (cond b (p ∷ window n ps) [])) (p ∷ ps))
-    [ true ↦ ap (λ r. p ∷ r) (window-take n ps) | false ↦ refl ]
-
-pub window-within : (n : ℕ) (ps : List Place) → length (window n ps) ≤ length ps
-window-within zero ps = omega arith
-window-within (suc n) [] = omega arith
-window-within (suc n) (p ∷ ps) =
-    elim (ltb p.0.0 32) as (λ b. length (cond b (p ∷ window n ps) []) ≤ suc (length ps))
-    [ true ↦ omega (arith, window-within n ps) | false ↦ omega arith ]
-
 pub regular-at : (racks each v : ℕ) → v < racks * each → slice_get (regular racks each) v ≡ Some (record { 0 = v / each }, Yes)
 regular-at racks each v h =
     let f : ℕ → Place = λ n. (record { 0 = n / each }, Yes) in
@@ -47,34 +33,33 @@ regular-at racks each v h =
 pub regular-past : (racks each v : ℕ) → racks * each ≤ v → slice_get (regular racks each) v ≡ None
 regular-past racks each v h = slice_get_past (regular racks each) v (rw length-map-range_with_len h)
 
-pub listed_at : (ps : List Place) (v : ℕ) (d : Place) → v < length (listed ps) → slice_get (listed ps) v ≡ Some (get_or ps v d)
-listed_at ps v d h =
-    let n = length (window 256 ps) in
-    let e : get_or (window 256 ps) v d ≡ get_or ps v d = ap (λ l. get_or l v d) (window-take 256 ps) ∙ get_or-take n ps v d h in
-    slice_get-get_or (listed ps) v d h ∙ ap Some e
+-- a window leaves its own entries as they are
+pub window-own : (n : ℕ) (ps : List Place) → window n (window n ps) ≡ window n ps
+window-own zero ps = refl
+window-own (suc n) [] = refl
+window-own (suc n) (p ∷ ps) =
+    let P : Bool → Type 0 = λ b. ltb p.0.0 32 ≡ b → window (suc n) (cond b (p ∷ window n ps) []) ≡ cond b (p ∷ window n ps) [] in
+    let both : (b : Bool) → P b = λ b. elim b as P [ true ↦ (λ q. rw q (ap (λ r. p ∷ r) (window-own n ps))) | false ↦ (λ q. refl) ] in
+    both (ltb p.0.0 32) refl
 
-pub listed-past : (ps : List Place) (v : ℕ) → length (listed ps) ≤ v → slice_get (listed ps) v ≡ None
-listed-past ps v h = slice_get_past (listed ps) v h
+-- the entries before the first whose rack is past the last, of as many as the window may have
+pub window-reach : (n : ℕ) (ps : List Place) (k : ℕ) → AllWithin (λ p. p.0.0 < 32) (take n ps) 0 k → k ≤ length (take n ps)
+    → (k < length (take n ps) → HoldsAt (λ p. 32 ≤ p.0.0) (take n ps) k) → take k (take n ps) ≡ window n ps
+window-reach zero ps zero below within stop = refl
+window-reach zero ps (suc k) below within stop = absurd (omega (arith, within))
+window-reach (suc n) [] zero below within stop = refl
+window-reach (suc n) [] (suc k) below within stop = absurd (omega (arith, within))
+window-reach (suc n) (p ∷ ps) zero below within stop = rw (le-ltb p.0.0 32 (stop (omega arith) p)) refl
+window-reach (suc n) (p ∷ ps) (suc k) below within stop =
+    let first : p.0.0 < 32 = below 0 p (omega arith) (omega arith) in
+    let rest = window-reach n ps k (λ i d h l. below (suc i) d (omega arith) (omega arith)) (omega (arith, within)) (λ h d. stop (omega (arith, h)) d) in
+    rw (lt-ltb p.0.0 32 first) (ap (λ r. p ∷ r) rest)
 
--- one entry on, and the two ends
-pub window_more : (n : ℕ) (ps : List Place) (i : ℕ) (d : Place) → i < length ps → i < n → (get_or ps i d).0.0 < 32
-    → length (window (n - i) (drop i ps)) ≡ suc (length (window (n - (i + 1)) (drop (i + 1) ps)))
-window_more n ps i d h k r =
-    let e : n - i ≡ suc (n - (i + 1)) = omega arith in
-    let t = lt-ltb (get_or ps i d).0.0 32 r in
-    rw (e, drop_more ps i d, t)
-
-stopped : (n : ℕ) (p : Place) (ps : List Place) → ltb p.0.0 32 ≡ false → length (window n (p ∷ ps)) ≡ 0
-stopped zero p ps t = refl
-stopped (suc n) p ps t = rw t
-
-pub window-stop : (n : ℕ) (ps : List Place) (i : ℕ) (d : Place) → i < length ps → 32 ≤ (get_or ps i d).0.0 → length (window (n - i) (drop i ps)) ≡ 0
-window-stop n ps i d h r =
-    let t = le-ltb (get_or ps i d).0.0 32 r in rw (drop_more ps i d) (stopped (n - i) (get_or ps i d) (drop (i + 1) ps) t)
-
-none : (n : ℕ) → length (window n []) ≡ 0
-none zero = refl
-none (suc n) = refl
-
-pub window-end : (n : ℕ) (ps : List Place) (i : ℕ) → length ps ≤ i → length (window (n - i) (drop i ps)) ≡ 0
-window-end n ps i h = rw (drop_all i ps h) (none (n - i))
+-- the same of the place that was found, or of none
+pub window-found : (n : ℕ) (ps ws : List Place) (r : Option ℕ) → ws ≡ take n ps
+    → MatchOption r (AllWithin (λ p. p.0.0 < 32) ws 0 (length ws)) (λ i. (i < length ws) × HoldsAt (λ p. 32 ≤ p.0.0) ws i × AllWithin (λ p. p.0.0 < 32) ws 0 i)
+    → take (unwrap_or r (length ws)) ws ≡ window n ps
+window-found n ps ws None e f = subst (λ vs. take (length vs) vs ≡ window n ps) (sym e) (window-reach n ps (length (take n ps)) (subst (λ vs. AllWithin (λ p. p.0.0 < 32) vs 0 (length vs)) e f) (omega arith) (λ h. absurd (omega (arith, h))))
+window-found n ps ws (Some i) e f =
+    let g = subst (λ vs. (i < length vs) × HoldsAt (λ p. 32 ≤ p.0.0) vs i × AllWithin (λ p. p.0.0 < 32) vs 0 i) e f in
+    subst (λ vs. take i vs ≡ window n ps) (sym e) (window-reach n ps i g.2 (omega (arith, g.0)) (λ h. g.1))

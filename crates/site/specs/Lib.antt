@@ -2,4 +2,3 @@ pub mod Words
 pub mod Site
 pub mod Maps
 pub mod Limits
-pub mod Fills

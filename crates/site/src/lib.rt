@@ -4,8 +4,11 @@
 ghost use Rattle.std.specs.Prelude.{◌≡◌, length};
 ghost use Rattle.site.specs.Site.{Site, Limits, place};
 
+use fixed::list::Blank;
+
 pub mod listed;
 pub mod regular;
+pub mod set;
 pub mod target;
 
 /// The most nodes that a map may have.
@@ -15,17 +18,26 @@ pub const NODES: u16 = 256;
 pub const RACKS: u32 = 32;
 
 /// A node's number.
-#[derive(Clone, Copy, PartialEq, Eq, Debug)]
+#[derive(Clone, Copy, PartialEq, Eq, Debug, Default)]
 pub struct Node(pub u16);
 
+impl Blank for Node {
+    ghost blank = { record { 0 = 0 } };
+
+    fn blank() -> Node {
+        Node(0)
+    }
+}
+
 /// A rack's number, wide enough for any that a caller can write.
-#[derive(Clone, Copy, PartialEq, Eq, Debug)]
+#[derive(Clone, Copy, PartialEq, Eq, Debug, Default)]
 pub struct Rack(pub u32);
 
 /// Whether a node may keep a block after encoding.
-#[derive(Clone, Copy, PartialEq, Eq, Debug)]
+#[derive(Clone, Copy, PartialEq, Eq, Debug, Default)]
 pub enum Mark {
     Yes,
+    #[default]
     No,
 }
 

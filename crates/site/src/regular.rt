@@ -17,11 +17,11 @@ pub struct RegularMap {
 #[derive(Clone, Copy, PartialEq, Eq, Debug)]
 pub struct OutsideRegular;
 
-impl OutsideRegular {
-    /// The number by which the refusal is told.
-    pub fn number(&self) -> u32
-        ensures { result ≡ 9 }
-    {
+/// The number by which the refusal is told.
+impl From<OutsideRegular> for u32 {
+    ghost from_gives = { λ _ n. n ≡ 9 };
+
+    fn from(_: OutsideRegular) -> u32 {
         9
     }
 }
@@ -30,10 +30,8 @@ impl RegularMap {
     pub fn new(racks: u32, each: u32) -> Result<RegularMap, OutsideRegular>
         ensures { MatchResult result (λ m. Fit racks each × (regular m.racks m.each ≡ regular racks each)) (λ _. Fit racks each → ⊥) }
     {
-        if racks < 1 || racks > RACKS || each < 1 || each > NODES as u32 {
-            return Err(OutsideRegular);
-        }
-        if racks * each > NODES as u32 {
+        let most = u32::from(NODES);
+        if racks < 1 || racks > RACKS || each < 1 || each > most || racks * each > most {
             return Err(OutsideRegular);
         }
         Ok(RegularMap { racks, each })
@@ -50,7 +48,7 @@ impl SiteMap for RegularMap {
     }
 
     fn node(&self, v: Node) -> Option<(Rack, Mark)> {
-        let v = v.0 as u32;
+        let v = u32::from(v.0);
         if v < self.racks * self.each {
             Some((Rack(v / self.each), Mark::Yes))
         } else {

@@ -1,16 +1,16 @@
 // The target map: any other map, with the racks that may keep blocks narrowed to those of a word.
-ghost use Rattle.std.specs.Prelude.{◌≡◌, ◌<◌, bit_and};
-ghost use Rattle.site.specs.Words.{member};
+ghost use Rattle.std.specs.Prelude.{◌≡◌, bit_and};
 ghost use Rattle.site.specs.Maps.{target, marked};
 ghost use Rattle.site.specs.Limits.{target-limits};
 
+use crate::set::NumberSet;
 use crate::{Mark, Node, Rack, SiteMap};
 
 /// The map below, with the marks of a rack's nodes kept only where the rack's bit of `word` is 1.
 #[derive(Drop)]
 pub struct TargetMap<M: SiteMap> {
     map: M,
-    word: u32,
+    word: NumberSet,
 }
 
 impl<M: SiteMap> TargetMap<M> {
@@ -19,7 +19,10 @@ impl<M: SiteMap> TargetMap<M> {
         ensures fields { (result.map ≡ map) × (result.word ≡ word) }
         ensures means { target result.word (M.meaning result.map) ≡ target word (M.meaning map) }
     {
-        TargetMap { map, word }
+        TargetMap {
+            map,
+            word: NumberSet::from(word),
+        }
     }
 
     /// All racks are targets: it means what the map below means.
@@ -28,7 +31,7 @@ impl<M: SiteMap> TargetMap<M> {
     {
         TargetMap {
             map,
-            word: u32::MAX,
+            word: NumberSet::from(u32::MAX),
         }
     }
 
@@ -40,17 +43,9 @@ impl<M: SiteMap> TargetMap<M> {
         let TargetMap { map, word: own } = self;
         TargetMap {
             map,
-            word: own & word,
+            word: NumberSet::from(u32::from(own) & word),
         }
     }
-}
-
-// Whether the rack's bit is 1.
-fn bit_on(word: u32, rack: Rack) -> bool
-    requires { rack.0 < 32 }
-    ensures { result ≡ member word rack.0 }
-{
-    (word >> rack.0) % 2 == 1
 }
 
 // The mark below where the rack is a target, else no.
@@ -70,9 +65,7 @@ impl<M: SiteMap> SiteMap for TargetMap<M> {
     }
 
     fn node(&self, v: Node) -> Option<(Rack, Mark)> {
-        match self.map.node(v) {
-            Some((rack, mark)) => Some((rack, narrowed(mark, bit_on(self.word, rack)))),
-            None => None,
-        }
+        let (rack, mark) = self.map.node(v)?;
+        Some((rack, narrowed(mark, self.word.has(rack.0))))
     }
 }

@@ -1,20 +1,18 @@
-use Rattle.std.proofs.Common.{arith}
-use Rattle.site.specs.Limits.{window-few}
-use Rattle.site.proofs.Places.{window_more, window-stop, window-end}
+use Rattle.std.proofs.Common.{rules, ◌≡◌, ◌<◌, ◌≤◌, take, sym, ap, ◌∙◌}
+use borrow.Author.Tests.{tests}
+use Rattle.std.proofs.lemmas.Iterator.{IsFirst-from_position, YieldsList-from_slice}
+use Rattle.site.specs.Site.{Place}
+use Rattle.site.specs.Maps.{listed}
+use Rattle.site.proofs.Places.{window-own, window-found}
 use Rattle.site.proofs.listed.ListedMap.new.Goals as goal
-use Rattle.site.proofs.listed.ListedMap.new.Goals.{then-i-via-then-i, then-i-via-else-i+then-e-ge-RACKS}
+
+first : (c : goal.After-unwrap_or) → take c.unwrap_or.result c.front-window.result.now ≡ listed c.args.entries.now
+first c =
+    let f = IsFirst-from_position _ _ _ (λ (p : Place). 32 ≤ p.0.0) (λ (p : Place). p.0.0 < 32) c.position-len.ensures.ran (YieldsList-from_slice c.front-window.result.now cc) (λ x q k. search (rules, tests)) (λ x q k. search (rules, tests)) in
+    rw c.unwrap_or.ensures (window-found 256 c.args.entries.now c.front-window.result.now c.position-len.result c.front-window.ensures f)
+
+pub returns : goal.returns
+returns c = first c.before
 
 pub invariant_of-result : goal.invariant_of-result
-invariant_of-result c =
-    elim c.then-i.branch [
-      | then-i-via-then-i w ↦ record { counted = omega (arith, window-few 256 c.args.entries.now, w.if-i.true) }
-      | then-i-via-else-i+then-e-ge-RACKS w ↦
-          record { counted = omega (arith, window-stop 256 c.args.entries.now c.loop-i.i _ c.loop-i-test.true w.if-e-ge-RACKS.true) }
-    ]
-
-pub loop-i-preserved : goal.loop-i-preserved
-loop-i-preserved c =
-    omega (arith, window_more 256 c.args.entries.now c.loop-i.i _ c.loop-i-test.true (omega arith) c.if-e-ge-RACKS.false)
-
-pub invariant_of-result-2 : goal.invariant_of-result-2
-invariant_of-result-2 c = record { counted = omega (arith, window-end 256 c.args.entries.now c.loop-i.i c.loop-i-test.false) }
+invariant_of-result c = record { own = ap (λ ps. listed ps) (first c) ∙ (window-own 256 c.args.entries.now ∙ sym (first c)) }
