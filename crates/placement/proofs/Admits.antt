@@ -1,44 +1,42 @@
 -- What a placing of all seats, or its failure, tells of the blocks' choices and tight sets.
-use Rattle.std.proofs.Common.{◌≡◌, ℕ, ◌+◌, ◌≤◌, Bool, true, List, [], ◌∷◌, ◌++◌, map, length, get_or, set, Ok, Err, filter, Result, sym, refl, ap, ◌∙◌, subst, arith, MatchResult}
+use Rattle.std.proofs.Common.{◌≡◌, ℕ, ◌≤◌, true, List, [], ◌∷◌, ◌++◌, map, length, get_or, Ok, Err, filter, Result, sym, refl, ap, ◌∙◌, subst, arith, MatchResult}
 use Rattle.std.specs.List.{range_with_len}
 use Rattle.std.proofs.lemmas.List.{length-map, map-append, length_push}
 use Rattle.site.specs.Site.{Site, Limits, keeps, node_rack}
 use Rattle.choices.specs.Choice.{Copies, choices}
 use Rattle.choices.specs.Hall.{usable, SomeChoice}
 use Rattle.choices.specs.Tight.{LeastTight}
-use Rattle.choices.specs.Search.{Sized, Complete}
+use Rattle.choices.specs.Search.{Complete}
 use Rattle.choices.proofs.Head.{empty-none, none-empty}
 use Rattle.choices.proofs.Moves.{placed_same}
 use Rattle.choices.proofs.Seats.{seat-choice, seat-choice-from, seat-least-from}
 use Rattle.choices.proofs.Sites.{sized, choice-by, complete-of, least-of, usable-front}
-use Rattle.blocks.specs.declared.block.Block.{Block}
 use Rattle.placement.specs.declared.seat.Seat.{Seat}
-use Rattle.placement.specs.declared.seat.Seats.{Seats}
-use Rattle.blocks.specs.Blocks.{copies_of}
-use Rattle.placement.specs.Seats.{seats_of, node_at, Sits, Settled, Crowding, Refusing}
-use Rattle.placement.specs.Resolved.{lists_in, seated, Resolved, CrowdedOut}
-use Rattle.placement.proofs.Resolves.{seating, sits-of, resolved-push}
+use Rattle.placement.specs.Seats.{node_at, Sits, Settled, Crowding, Refusing, AllSit, NotAllSit}
+use Rattle.placement.specs.Resolved.{Resolved, CrowdedOut}
+use Rattle.placement.proofs.Resolves.{seating, seats-long, sits-of}
 
 module _ (s : Site) (limits : Limits s) (c : ℕ) where
-  module _ (bs : List Copies) (seats : List Seats) (n : ℕ) (few : length bs ≤ 17) (long : length bs ≡ n) (r : Resolved s bs seats) where
-    same : length (map (filter (keeps s)) bs) ≡ n
-    same = length-map bs (filter (keeps s)) ∙ long
+  module _ (bs : List Copies) (seats : List (List Seat)) (few : length bs ≤ 17) (r : Resolved s bs seats) where
+    same : length (map (filter (keeps s)) bs) ≡ length seats
+    same = sym (seats-long s (map (filter (keeps s)) bs) seats (seating s bs seats few r))
 
-    sits : Sits (node_rack s) (usable s (map (filter (keeps s)) bs)) n seats
+    sits : Sits (node_rack s) (usable s (map (filter (keeps s)) bs)) (length seats) seats
     sits = subst (λ m. Sits (node_rack s) (usable s (map (filter (keeps s)) bs)) m seats) same (sits-of s (map (filter (keeps s)) bs) seats (seating s bs seats few r))
 
-    pub admitted : (at : List Seat)
-        → ((rack : ℕ → ℕ) (U : ℕ → ℕ → Bool) (N : ℕ) → Sized N 32 rack U → Sits rack U n seats → Settled rack U n c at) → SomeChoice s c bs
-    admitted at f =
-        let h = f (node_rack s) (usable s (map (filter (keeps s)) bs)) (length s) (sized s c (map (filter (keeps s)) bs) limits) sits in (
-          map (node_at at) (range_with_len 0 (length (map (filter (keeps s)) bs))),
-          seat-choice-from s c bs _
-              (choice-by s c (map (filter (keeps s)) bs) (node_at at)
-              (subst (λ m. Complete m c (node_rack s) (usable s (map (filter (keeps s)) bs)) (node_at at)) (sym same) h.complete)),
-        )
+    pub all_sit : (at : List _) → AllSit c seats at → Settled (node_rack s) (usable s (map (filter (keeps s)) bs)) (length (map (filter (keeps s)) bs)) c at
+    all_sit at f =
+        subst (λ m. Settled (node_rack s) (usable s (map (filter (keeps s)) bs)) m c at) (sym same)
+        (f (node_rack s) (usable s (map (filter (keeps s)) bs)) (length s) (sized s c (map (filter (keeps s)) bs) limits) sits)
 
-    module _ (w : ℕ) (f : (rack : ℕ → ℕ) (U : ℕ → ℕ → Bool) (N : ℕ) → Sized N 32 rack U → Sits rack U n seats → Refusing rack U N n c w) where
-      refusing : Refusing (node_rack s) (usable s (map (filter (keeps s)) bs)) (length s) n c w
+    pub admitted : (at : List _) → AllSit c seats at → SomeChoice s c bs
+    admitted at f = (
+      map (node_at at) (range_with_len 0 (length (map (filter (keeps s)) bs))),
+      seat-choice-from s c bs _ (choice-by s c (map (filter (keeps s)) bs) (node_at at) (all_sit at f).complete),
+    )
+
+    module _ (w : ℕ) (f : NotAllSit c seats w) where
+      refusing : Refusing (node_rack s) (usable s (map (filter (keeps s)) bs)) (length s) (length seats) c w
       refusing = f (node_rack s) (usable s (map (filter (keeps s)) bs)) (length s) (sized s c (map (filter (keeps s)) bs) limits) sits
 
       pub refused : SomeChoice s c bs → ⊥
@@ -47,7 +45,7 @@ module _ (s : Site) (limits : Limits s) (c : ℕ) where
           (subst (λ m. Complete m c (node_rack s) (usable s (map (filter (keeps s)) bs)) (λ i. get_or h.0 i 0)) same
           (complete-of s c (map (filter (keeps s)) bs) h.0 (seat-choice s c bs h.0 h.1)))
 
-      crowding : Crowding (node_rack s) (usable s (map (filter (keeps s)) bs)) (length s) n c w → LeastTight s c bs w
+      crowding : Crowding (node_rack s) (usable s (map (filter (keeps s)) bs)) (length s) (length seats) c w → LeastTight s c bs w
       crowding k =
           seat-least-from s c bs w
           (let k' : Crowding (node_rack s) (usable s (map (filter (keeps s)) bs)) (length s) (length (map (filter (keeps s)) bs)) c w =
@@ -72,26 +70,16 @@ module _ (s : Site) (limits : Limits s) (c : ℕ) where
           ))
           (λ i _ _. refl) p in
           crowding
-          (refusing.last (length (map (filter (keeps s)) os)) (omega (arith, m, long, ap length e, length_push os b)) (λ i. get_or h.0 i 0) q)
+          (refusing.last (length (map (filter (keeps s)) os)) (omega (arith, m, same, length-map bs (filter (keeps s)), ap length e, length_push os b)) (λ i. get_or h.0 i 0) q)
 
--- a stripe's blocks and an offered one
-module _ (s : Site) (limits : Limits s) (c : ℕ) (bs : List Block) (b : Copies) (slice : List Block) (seats : List Seats) (q : Seats) (n : ℕ) (is : slice ≡ bs)
-    (long : n ≡ length bs) (few : n ≤ 16) (all : Resolved s (lists_in slice) seats) (one : seats_of q ≡ seated s b) where
-  resolved : Resolved s (lists_in bs ++ b ∷ []) (set seats n q)
-  resolved =
-      resolved-push s (lists_in bs) seats b q n (subst (λ z. Resolved s (lists_in z) seats) is all) (length-map bs copies_of ∙ sym long) (omega arith) one
-
-  count : length (lists_in bs ++ b ∷ []) ≡ n + 1
-  count = omega (arith, length_push (lists_in bs) b, length-map bs copies_of)
-
-  pub offered : (at : List Seat) (r : Result (Unit {0}) ℕ) → MatchResult r
-      (λ _. (rack : ℕ → ℕ) (U : ℕ → ℕ → Bool) (N : ℕ) → Sized N 32 rack U → Sits rack U (n + 1) (set seats n q) → Settled rack U (n + 1) c at)
-      (λ w. (rack : ℕ → ℕ) (U : ℕ → ℕ → Bool) (N : ℕ) → Sized N 32 rack U → Sits rack U (n + 1) (set seats n q) → Refusing rack U N (n + 1) c w)
-      → MatchResult r (λ _. SomeChoice s c (lists_in bs ++ b ∷ [])) (λ w. CrowdedOut s c (lists_in bs) b w)
-  offered at (Ok u) h = admitted s limits c (lists_in bs ++ b ∷ []) (set seats n q) (n + 1) (omega (arith, count)) count resolved at h
-  offered at (Err w) h = (
-    refused s limits c (lists_in bs ++ b ∷ []) (set seats n q) (n + 1) (omega (arith, count)) count resolved w h,
-    least s limits c (lists_in bs ++ b ∷ []) (set seats n q) (n + 1) (omega (arith, count)) count resolved w h (lists_in bs) b refl,
+  -- a stripe's blocks bs and an offered one
+  pub offered : (bs : List Copies) (b : Copies) (seats : List (List Seat)) → length bs ≤ 16 → Resolved s (bs ++ b ∷ []) seats → (r : Result (Unit {0}) ℕ)
+      → MatchResult r (λ _. (at : List _) × AllSit c seats at) (NotAllSit c seats)
+      → MatchResult r (λ _. SomeChoice s c (bs ++ b ∷ [])) (λ w. CrowdedOut s c bs b w)
+  offered bs b seats few all (Ok u) h = admitted (bs ++ b ∷ []) seats (omega (arith, length_push bs b)) all h.0 h.1
+  offered bs b seats few all (Err w) h = (
+    refused (bs ++ b ∷ []) seats (omega (arith, length_push bs b)) all w h,
+    least (bs ++ b ∷ []) seats (omega (arith, length_push bs b)) all w h bs b refl,
   )
 
 -- the same of the list of choices

@@ -1,3 +1,5 @@
+pub mod Sets
+pub mod Lowest
 pub mod Seated
 pub mod Resolves
 pub mod Admits

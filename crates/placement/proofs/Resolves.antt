@@ -1,60 +1,28 @@
 -- Lists resolved to seats: one node more, one list more, and what the seats then tell of the site.
-use Rattle.std.proofs.Common.{◌≡◌, ℕ, zero, suc, ◌+◌, ◌<◌, ◌≤◌, Bool, true, eqb, List, [], ◌∷◌, ◌++◌, map, length, get_or, take, set, filter, sym, refl, ap, ◌∙◌, subst, inl, inr, arith}
-use Rattle.std.proofs.lemmas.List.{map-append, map-set, length-map, take_more, get_or-map, get_or-take, get_or_append_left, length-take-le, map_push}
-use Rattle.std.proofs.lemmas.List.Elements.{filter-append}
+use Rattle.std.proofs.Common.{◌≡◌, ℕ, zero, suc, ◌<◌, ◌≤◌, Bool, true, eqb, List, [], ◌∷◌, ◌++◌, map, length, get_or, filter, Result, sym, refl, ap, ◌∙◌, subst, inl, inr, arith}
+use Rattle.std.proofs.lemmas.List.{map_push, length-map, get_or-map}
 use Rattle.std.proofs.lemmas.Bool.{and_parts, and_from, cases_Bool, or_cases, eqb-true, false≢true}
-use Rattle.site.specs.Fills.{filled}
+use Rattle.fixed.proofs.Pushes.{Pushed, pushed}
 use Rattle.site.specs.Site.{Site, keeps, node_rack}
-use Rattle.site.specs.declared.Node.{Node}
-use Rattle.site.proofs.Fills.{filled-push, length-filled}
 use Rattle.choices.specs.Choice.{Copies, has}
 use Rattle.choices.specs.Hall.{usable}
 use Rattle.choices.proofs.Nodes.{has-place, has-at}
-use Rattle.blocks.specs.declared.block.Block.{Block}
 use Rattle.placement.specs.declared.seat.Seat.{Seat}
-use Rattle.placement.specs.declared.seat.Seats.{Seats}
-use Rattle.blocks.specs.Blocks.{copies_of, numbers}
-use Rattle.placement.specs.Seats.{seats_of, Sits}
-use Rattle.placement.specs.Resolved.{seat_at, seated, lists_in, Resolved, Seating}
-
--- one listed node more
-pub seated-more : (s : Site) (b : List ℕ) (i : ℕ) → i < length b → seated s (take (i + 1) b) ≡ seated s (take i b) ++ seated s (get_or b i 0 ∷ [])
-seated-more s b i l =
-    ap (seated s) (take_more b i 0 l) ∙ ap (map (seat_at s)) (filter-append (keeps s) (take i b) (get_or b i 0 ∷ []))
-    ∙ map-append (seat_at s) (filter (keeps s) (take i b)) (filter (keeps s) (get_or b i 0 ∷ []))
-
--- a block's node at a place of its list
-pub copy_at : (q : Block) (i : ℕ) → i < q.len → get_or (copies_of q) i 0 ≡ (get_or q.nodes i (record { 0 = 0 })).0
-copy_at q i l =
-    let m : length (take q.len q.nodes) ≡ q.len = length-take-le q.len q.nodes (omega (arith, q.few, q.full)) in
-    get_or-map (λ v. v.0) (take q.len q.nodes) i (record { 0 = 0 }) 0 (omega arith)
-    ∙ ap (λ v. v.0) (get_or-take q.len q.nodes i (record { 0 = 0 }) l)
-
-pub copies_length : (q : Block) → length (copies_of q) ≡ q.len
-copies_length q =
-    length-map (take q.len q.nodes) (λ v. v.0) ∙ length-take-le q.len q.nodes (omega (arith, q.few, q.full))
+use Rattle.placement.specs.Seats.{list_at, seat_in, blank_seat, Sits}
+use Rattle.placement.specs.Resolved.{seat_at, seated, Resolved, Seating}
 
 -- one list more
-pub resolved-push : (s : Site) (bs : List Copies) (seats : List Seats) (b : Copies) (q : Seats) (i : ℕ) → Resolved s bs seats → length bs ≡ i → i < 17
-    → seats_of q ≡ seated s b → Resolved s (bs ++ b ∷ []) (set seats i q)
-resolved-push s bs seats b q i r e l h =
-    map-set seats_of seats i q ∙ ap (λ z. set z i (seats_of q)) r ∙ ap (λ z. set (filled [] 17 (map (seated s) bs)) i z) h
-    ∙ filled-push [] 17 i (map (seated s) bs) (seated s b) (length-map bs (seated s) ∙ e) l
-    ∙ ap (filled [] 17) (sym (map_push (seated s) bs b))
+resolved-push : (s : Site) (bs : List Copies) (seats : List (List Seat)) (b : Copies) (q : List Seat) → Resolved s bs seats → q ≡ seated s b
+    → Resolved s (bs ++ b ∷ []) (seats ++ q ∷ [])
+resolved-push s bs seats b q r e = ap (λ z. z ++ q ∷ []) r ∙ ap (λ z. map (seated s) bs ++ z ∷ []) e ∙ sym (map_push (seated s) bs b)
 
-pub resolve-step : (s : Site) (vs : List Node) (b : Copies) → numbers vs ≡ b → (i : ℕ) → i < length vs → (before after : List Seat) → before ≡ seated s (take i b)
-    → after ≡ before ++ seated s ((get_or vs i (record { 0 = 0 })).0 ∷ []) → after ≡ seated s (take (i + 1) b)
-resolve-step s vs b n i l before after e f =
-    let k : length b ≡ length vs = ap length (sym n) ∙ length-map vs (λ v. v.0) in
-    let m = seated-more s b i (omega arith) in
-    let a : get_or b i 0 ≡ (get_or vs i (record { 0 = 0 })).0 = ap (λ z. get_or z i 0) (sym n) ∙ get_or-map (λ v. v.0) vs i (record { 0 = 0 }) 0 l in cc
+pub resolved-few : (s : Site) (bs : List Copies) (seats : List (List Seat)) (n : ℕ) → Resolved s bs seats → length seats ≤ n → length bs ≤ n
+resolved-few s bs seats n r l = omega (arith, ap length r, length-map bs (seated s), l)
 
-pub resolved_step : (s : Site) (bs : List Block) (seats : List Seats) (i : ℕ) (b : Block) (q : Seats) → length bs ≤ 16 → i < length bs → b ≡ get_or bs i b
-    → seats_of q ≡ seated s (copies_of b) → Resolved s (lists_in (take i bs)) seats → Resolved s (lists_in (take (i + 1) bs)) (set seats i q)
-resolved_step s bs seats i b q few l is h r =
-    let e : lists_in (take (i + 1) bs) ≡ lists_in (take i bs) ++ copies_of b ∷ [] =
-    ap lists_in (take_more bs i b l ∙ ap (λ z. take i bs ++ z ∷ []) (sym is)) ∙ map_push copies_of (take i bs) b in
-    rw e (resolved-push s (lists_in (take i bs)) seats (copies_of b) q i r (length-map (take i bs) copies_of ∙ length-take-le i bs (omega arith)) (omega arith) h)
+-- a stripe's lists and an offered one
+pub resolved_with : {E : Type 0} (s : Site) (bs : List Copies) (b : Copies) (seats pushed' slice : List (List Seat)) (q : List Seat) (r : Result (Unit {0}) E)
+    → Resolved s bs seats → length seats ≤ 16 → q ≡ seated s b → Pushed 17 seats pushed' q r → slice ≡ pushed' → Resolved s (bs ++ b ∷ []) slice
+resolved_with s bs b seats pushed' slice q r h few e p f = f ∙ pushed 17 seats pushed' q r p (omega (arith, few)) ∙ resolved-push s bs seats b q h e
 
 -- lists cut down to their yes nodes
 kept-has : (q : ℕ → Bool) (b : List ℕ) (v : ℕ) → has v (filter q b) ≡ true → q v ≡ true
@@ -75,49 +43,38 @@ seated-lists : (s : Site) (bs : List Copies) → map (seated s) bs ≡ map (map 
 seated-lists s [] = refl
 seated-lists s (b ∷ bs) = ap (λ z. seated s b ∷ z) (seated-lists s bs)
 
-pub seating : (s : Site) (bs : List Copies) (seats : List Seats) → length bs ≤ 17 → Resolved s bs seats → Seating s (map (filter (keeps s)) bs) seats
+pub seating : (s : Site) (bs : List Copies) (seats : List (List Seat)) → length bs ≤ 17 → Resolved s bs seats → Seating s (map (filter (keeps s)) bs) seats
 seating s bs seats l r = record {
-  same = r ∙ ap (filled [] 17) (seated-lists s bs);
+  same = r ∙ seated-lists s bs;
   few = rw length-map l;
   kept = kept-lists (keeps s) bs;
 }
 
-module _ (s : Site) (ds : List Copies) (seats : List Seats) (g : Seating s ds seats) where
-  pub seats-long : length seats ≡ 17
-  seats-long =
-      sym (length-map seats seats_of) ∙ ap length g.same
-      ∙ length-filled [] 17 (map (map (seat_at s)) ds) (omega (arith, g.few, length-map ds (map (seat_at s))))
+module _ (s : Site) (ds : List Copies) (seats : List (List Seat)) (g : Seating s ds seats) where
+  pub seats-long : length seats ≡ length ds
+  seats-long = ap length g.same ∙ length-map ds (map (seat_at s))
 
-  pub seats-at : (i : ℕ) (q : Seats) → i < length ds → q ≡ get_or seats i q → seats_of q ≡ map (seat_at s) (get_or ds i [])
-  seats-at i q l is =
-      ap seats_of is ∙ sym (get_or-map seats_of seats i q [] (omega (arith, g.few, seats-long))) ∙ ap (λ z. get_or z i []) g.same
-      ∙ get_or_append_left (map (map (seat_at s)) ds) _ [] i (omega (arith, length-map ds (map (seat_at s))))
-      ∙ get_or-map (map (seat_at s)) ds i [] [] l
+  pub seats-at : (i : ℕ) → i < length ds → list_at seats i ≡ map (seat_at s) (get_or ds i [])
+  seats-at i l = ap (λ z. list_at z i) g.same ∙ get_or-map (map (seat_at s)) ds i [] [] l
 
-pub seats-length : (s : Site) (b : Copies) (q : Seats) → seats_of q ≡ map (seat_at s) b → q.len ≡ length b
-seats-length s b q e =
-    sym (length-take-le q.len q.at (omega (arith, q.few, q.full))) ∙ ap length e ∙ length-map b (seat_at s)
+  pub seats-count : (i : ℕ) → i < length ds → length (list_at seats i) ≡ length (get_or ds i [])
+  seats-count i l = ap length (seats-at i l) ∙ length-map (get_or ds i []) (seat_at s)
 
-pub seat-at : (s : Site) (b : Copies) (q : Seats) → seats_of q ≡ map (seat_at s) b → (k : ℕ) → k < q.len
-    → get_or q.at k (record { node = record { 0 = 0 }; rack = record { 0 = 0 } }) ≡ seat_at s (get_or b k 0)
-seat-at s b q e k l =
-    sym (get_or-take q.len q.at k _ l) ∙ ap (λ z. get_or z k (record { node = record { 0 = 0 }; rack = record { 0 = 0 } })) e
-    ∙ get_or-map (seat_at s) b k 0 _ (omega (arith, seats-length s b q e))
+  pub seat-read : (i k : ℕ) → i < length ds → k < length (get_or ds i []) → seat_in (list_at seats i) k ≡ seat_at s (get_or (get_or ds i []) k 0)
+  seat-read i k l h = ap (λ z. seat_in z k) (seats-at i l) ∙ get_or-map (seat_at s) (get_or ds i []) k 0 blank_seat h
 
--- the seats tell of the site's racks, and of which nodes are usable
-pub sits-of : (s : Site) (ds : List Copies) (seats : List Seats) → Seating s ds seats → Sits (node_rack s) (usable s ds) (length ds) seats
-sits-of s ds seats g = record {
-  usable = λ i q l is k h.
-      let e = seats-at s ds seats g i q l is in
-      let m : k < length (get_or ds i []) = omega (arith, seats-length s (get_or ds i []) q e) in
-      let a = has-at (get_or ds i []) k m in
-      subst (λ z. usable s ds i z.node.0 ≡ true) (sym (seat-at s (get_or ds i []) q e k h))
-      (and_from (keeps s (get_or (get_or ds i []) k 0)) _ (g.kept i _ a) a);
-  racked = λ i q l is k h.
-      subst (λ z. node_rack s z.node.0 ≡ z.rack.0) (sym (seat-at s (get_or ds i []) q (seats-at s ds seats g i q l is) k h)) refl;
-  listed = λ i q l is v u.
-      let e = seats-at s ds seats g i q l is in
-      let p = has-place v (get_or ds i []) (and_parts (keeps s v) _ u).1 in
-      let h : p.0 < q.len = omega (arith, p.1, seats-length s (get_or ds i []) q e) in
-      (p.0, h, ap (λ z. z.node.0) (seat-at s (get_or ds i []) q e p.0 h) ∙ p.2);
-}
+  -- the seats tell of the site's racks, and of which nodes are usable
+  pub sits-of : Sits (node_rack s) (usable s ds) (length ds) seats
+  sits-of = record {
+    long = omega (arith, seats-long);
+    usable = λ i l k h.
+        let m : k < length (get_or ds i []) = omega (arith, seats-count i l) in
+        let a = has-at (get_or ds i []) k m in
+        subst (λ z. usable s ds i z.node.0 ≡ true) (sym (seat-read i k l m)) (and_from (keeps s (get_or (get_or ds i []) k 0)) _ (g.kept i _ a) a);
+    racked = λ i l k h.
+        let m : k < length (get_or ds i []) = omega (arith, seats-count i l) in
+        subst (λ z. node_rack s z.node.0 ≡ z.rack.0) (sym (seat-read i k l m)) refl;
+    listed = λ i l v u.
+        let p = has-place v (get_or ds i []) (and_parts (keeps s v) _ u).1 in
+        (p.0, omega (arith, p.1, seats-count i l), ap (λ z. z.node.0) (seat-read i p.0 l p.1) ∙ p.2);
+  }

@@ -1,3 +1,4 @@
+pub mod Members
 pub mod Seats
 pub mod Resolved
 pub mod Firsts

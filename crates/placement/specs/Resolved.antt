@@ -1,18 +1,10 @@
 -- Lists of copies as seats.
 use Rattle.std.specs.Prelude.{◌≡◌, ℕ, ◌≤◌, true, List, [], ◌∷◌, ◌++◌, map, length, filter, slice_index_or}
-use Rattle.site.specs.Fills.{filled}
 use Rattle.site.specs.Site.{Site, keeps, node_rack}
 use Rattle.choices.specs.Choice.{Copies, has}
 use Rattle.choices.specs.Hall.{SomeChoice}
 use Rattle.choices.specs.Tight.{LeastTight}
-use Rattle.blocks.specs.declared.block.Block.{Block}
 use Rattle.placement.specs.declared.seat.Seat.{Seat}
-use Rattle.placement.specs.declared.seat.Seats.{Seats}
-use Rattle.blocks.specs.Blocks.{copies_of}
-use Rattle.placement.specs.Seats.{seats_of}
-
-abbrev pub lists_in : List Block → List Copies
-lists_in bs = map copies_of bs
 
 abbrev pub seat_at : Site → ℕ → Seat
 seat_at s v = record { node = record { 0 = v }; rack = record { 0 = node_rack s v } }
@@ -21,13 +13,13 @@ seat_at s v = record { node = record { 0 = v }; rack = record { 0 = node_rack s 
 abbrev pub seated : Site → Copies → List Seat
 seated s b = map (seat_at s) (filter (keeps s) b)
 
--- of each list of bs its seats, in room for 17
-abbrev pub Resolved : Site → List Copies → List Seats → Type 0
-Resolved s bs seats = map seats_of seats ≡ filled [] 17 (map (seated s) bs)
+-- of each list of bs its seats
+abbrev pub Resolved : Site → List Copies → List (List Seat) → Type 0
+Resolved s bs seats = seats ≡ map (seated s) bs
 
 -- the same of lists that have yes nodes only
-pub record Seating (s : Site) (ds : List Copies) (seats : List Seats) : Type 0 where
-  pub same : map seats_of seats ≡ filled [] 17 (map (map (seat_at s)) ds)
+pub record Seating (s : Site) (ds : List Copies) (seats : List (List Seat)) : Type 0 where
+  pub same : seats ≡ map (map (seat_at s)) ds
   pub few : length ds ≤ 17
   pub kept : (i v : ℕ) → has v (slice_index_or ds i []) ≡ true → keeps s v ≡ true
 

@@ -1,95 +1,113 @@
 // The first choice: block after block is narrowed to its earliest seat that leaves a choice for all.
-ghost use Rattle.std.specs.Prelude.{◌≡◌, ℕ, ◌+◌, ◌<◌, ◌≤◌, List, [], length, MatchBool, slice_index_or};
+ghost use Rattle.std.specs.Prelude.{◌≡◌, ◌+◌, ◌<◌, List, length, MatchBool};
 ghost use Rattle.site.specs.Site.{Site};
-ghost use Rattle.choices.specs.Choice.{Copies, Choice, choices};
-ghost use Rattle.choices.specs.Order.{narrow};
+ghost use Rattle.choices.specs.Choice.{Copies, choices};
 ghost use Rattle.choices.specs.Plan.{first_of};
 ghost use Rattle.blocks.specs.Lists.{lists_of, node_numbers};
-ghost use Rattle.placement.specs.Firsts.{placed, Standing, Narrows};
+ghost use Rattle.placement.specs.Seats.{node_of};
+ghost use Rattle.placement.specs.Firsts.{placed, Standing, Narrows, Kept, Vain};
 
 use crate::resolve::resolve_all;
-use crate::search::{extend, seat_all};
-use crate::seat::{Seat, Seats};
+use crate::search::Search;
+use crate::seat::{Lists, Seat, alone};
+use crate::sitting::{Sitting, is_at};
 use blocks::lists::{Blocks, Nodes};
-use site::{Node, Rack, SiteMap};
+use fixed::slices::front;
+use site::{Node, SiteMap};
 
-// Whether all blocks can sit with block i at its seat j alone; they then do.
-fn try_seat(seats: &mut [Seats], n: usize, c: u32, at: &mut [Seat], i: usize, j: usize) -> bool
-    requires { (n ≤ length seats.old) × ((n ≤ length at.old) × ((n ≤ 32) × ((i < n) × (j < 8)))) }
-    ensures { MatchBool result
-        ((s : Site) (ds : List Copies) → Standing s c n ds seats.old at.old → j < length (slice_index_or ds i [])
-        → Standing s c n (narrow ds i j) seats.new at.new)
-        ((seats.new ≡ seats.old) × (at.new ≡ at.old)
-        × ((s : Site) (ds : List Copies) → Standing s c n ds seats.old at.old → j < length (slice_index_or ds i [])
-        → (vs : List ℕ) → Choice s c (narrow ds i j) vs → ⊥)) }
-{
-    let list = seats[i];
-    let v = list.at[j];
-    seats[i] = Seats::one(v);
-    if at[i].node.0 == v.node.0 {
-        return true;
-    }
-    match extend(seats, n, c, at, i) {
-        Ok(()) => true,
-        Err(_) => {
-            seats[i] = list;
-            false
-        }
-    }
+/// Blocks that all sit, at most c in a rack, while one after the other is left one seat alone.
+#[derive(Clone, Copy)]
+pub(crate) struct Settling {
+    seats: Lists,
+    c: u32,
+    sat: Sitting,
 }
 
-// Narrows block i to its earliest seat that leaves a choice for all.
-fn settle(seats: &mut [Seats], n: usize, c: u32, at: &mut [Seat], i: usize)
-    requires { (n ≤ length seats.old) × ((n ≤ length at.old) × ((n ≤ 32) × (i < n))) }
-    ensures { (s : Site) (bs : List Copies) → Narrows s c n bs i seats.old at.old
-        → Narrows s c n bs (i + 1) seats.new at.new }
+// The node of a seat; node 0 where there is none, which is never once all blocks sit.
+fn node_of_seat(seat: &Option<Seat>) -> Node
+    ensures { result.0 ≡ node_of seat.now }
 {
-    let len = seats[i].len;
-    for j in 0..len {
-        if try_seat(seats, n, c, at, i, j) {
+    seat.map_or(Node(0), |own| own.node)
+}
+
+impl Settling {
+    // Whether all blocks can sit with block i at its seat v alone; they then do, and otherwise all is as before. A yes or no:
+    // there is nothing to hand on, so a `Result` with an empty error would be no plainer.
+    fn try_seat(&mut self, i: u32, v: Seat) -> bool
+        ensures { MatchBool result (Kept i v self.old self.new) (Vain i v self.old self.new) }
+    {
+        let place = i as usize;
+        let Some(list) = self.seats.get(place) else {
+            return false;
+        };
+        self.seats.set(place, alone(v));
+        let had = self.sat.put(i, None);
+        if is_at(had, v.node) {
+            self.sat.put(i, had);
+            return true;
+        }
+        let search = Search {
+            seats: self.seats.as_slice(),
+            c: self.c,
+        };
+        match search.extend(&mut self.sat, i) {
+            Ok(()) => true,
+            Err(_) => {
+                self.seats.set(place, list);
+                self.sat.put(i, had);
+                false
+            }
+        }
+    }
+
+    // Narrows block i to its earliest seat that leaves a choice for all.
+    fn settle(&mut self, i: u32)
+        ensures { (s : Site) (c : _) (bs : List Copies) → i < length bs → Narrows s c bs i self.old → Narrows s c bs (i + 1) self.new }
+    {
+        let Some(list) = self.seats.get(i as usize) else {
             return;
+        };
+        for v in list.as_slice() {
+            if self.try_seat(i, *v) {
+                return;
+            }
         }
     }
-}
 
-// Narrows each block in turn.
-fn settle_all(seats: &mut [Seats], n: usize, c: u32, at: &mut [Seat])
-    requires { (n ≤ length seats.old) × ((n ≤ length at.old) × (n ≤ 32)) }
-    ensures { (s : Site) (bs : List Copies) → Standing s c n bs seats.old at.old
-        → placed n at.new ≡ first_of (choices s c bs) }
-{
-    for i in 0..n {
-        settle(seats, n, c, at, i);
+    // The nodes at which the blocks sit.
+    fn nodes(&self) -> Nodes
+        ensures { node_numbers result ≡ placed (length self.now.seats) self.now.sat.at }
+    {
+        let mut nodes = Nodes::new();
+        for seat in front(&self.sat.at, self.seats.len()) {
+            let _ = nodes.push(node_of_seat(seat));
+        }
+        nodes
     }
-}
 
-// The nodes at which the first n blocks sit.
-fn nodes_of(at: &[Seat], n: usize) -> Nodes
-    requires { (n ≤ length at.now) × (n ≤ 24) }
-    ensures { node_numbers result ≡ placed n at.now }
-{
-    let mut nodes = Nodes::new();
-    for i in 0..n {
-        let _ = nodes.push(at[i].node);
+    // The nodes at which the blocks sit once each was narrowed in turn.
+    fn first(mut self) -> Nodes
+        ensures { (s : Site) (c : _) (bs : List Copies) → Standing s c bs self → node_numbers result ≡ first_of (choices s c bs) }
+    {
+        // A block goes by its number, and its list is narrowed in place, so the lists are not walked.
+        for i in 0..self.seats.len() as u32 {
+            self.settle(i);
+        }
+        self.nodes()
     }
-    nodes
 }
 
 /// The first choice of some blocks: the node of each; none where they have no choice.
 pub fn first_choice<M: SiteMap>(map: &M, c: u32, blocks: &Blocks) -> Nodes
     ensures { node_numbers result ≡ first_of (choices (M.SiteMap.meaning map.now) c (lists_of blocks.now)) }
 {
-    let mut seats = resolve_all(map, blocks.as_slice());
-    let n = blocks.len();
-    let mut at = [Seat {
-        node: Node(0),
-        rack: Rack(0),
-    }; 17];
-    match seat_all(&seats, n, c, &mut at) {
-        Ok(()) => {
-            settle_all(&mut seats, n, c, &mut at);
-            nodes_of(&at, n)
-        }
+    let seats = resolve_all(map, blocks);
+    let search = Search {
+        seats: seats.as_slice(),
+        c,
+    };
+    match search.seat_all() {
+        Ok(sat) => Settling { seats, c, sat }.first(),
         Err(_) => Nodes::new(),
     }
 }

@@ -4,9 +4,11 @@
 
 pub mod admit;
 pub mod first;
+mod members;
 pub mod plan;
 mod resolve;
 mod search;
 mod seat;
+mod sitting;
 #[cfg(test)]
 mod tests;

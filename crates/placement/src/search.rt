@@ -1,178 +1,120 @@
 // The search for a seat of one more block. Depth first: where no seat is open, another block gives way and is placed anew;
 // each block is taken out at most once. Where all fails, the blocks taken out are the least tight set.
-ghost use Rattle.std.specs.Prelude.{◌≡◌, ℕ, ◌+◌, ◌^◌, ◌<◌, ◌≤◌, Bool, true, false, ◌&&◌, ◌⊎◌, length, set, MatchBool, MatchResult, ◌==◌, ◌≢◌, bit_or};
-ghost use Rattle.site.specs.Words.{member};
-ghost use Rattle.choices.specs.Search.{but, Free, Sized, unseen};
-ghost use Rattle.placement.specs.Seats.{node_at, rack_at, load_of, Taken, Closed, gives, Sits, Settled, Seated, Unseated, Freed, Barred, Placing, Crowding, Refusing};
+ghost use Rattle.std.specs.Prelude.{◌≡◌, ◌≤◌, length, IfSome, MatchResult};
+ghost use Rattle.placement.specs.Seats.{list_at, Offers, Seated, Unseated, Freed, Barred, Extended, Stuck, AllSit, NotAllSit};
 
+use crate::members::Members;
 use crate::seat::{Seat, Seats};
-use site::{Node, Rack};
+use crate::sitting::Sitting;
+use site::set::NumberSet;
 
-// Whether a block other than x holds the node v.
-fn held(at: &[Seat], n: usize, x: usize, v: Node) -> bool
-    requires { n ≤ length at.now }
-    ensures { Taken n at.now x v.0 result }
-{
-    for y in 0..n {
-        if y != x && at[y].node.0 == v.0 {
-            return true;
+/// The seats of up to 17 blocks, and how many blocks a rack takes.
+#[derive(Clone, Copy)]
+pub(crate) struct Search<'a> {
+    pub(crate) seats: &'a [Seats],
+    pub(crate) c: u32,
+    ghost few: { length seats.now ≤ 17 },
+}
+
+impl<'a> Search<'a> {
+    // The seats of a block.
+    fn list(&self, x: u32) -> &'a [Seat]
+        ensures { result.now ≡ list_at self.now.seats.now x }
+    {
+        match self.seats.get(x as usize) {
+            Some(list) => list.as_slice(),
+            None => &[],
         }
     }
-    false
-}
 
-// Whether block y is not x, and sits in rack r.
-fn lies(at: &[Seat], x: usize, r: Rack, y: usize) -> bool
-    requires { y < length at.now }
-    ensures { result ≡ (but x y && rack_at at.now y == r.0) }
-{
-    y != x && at[y].rack.0 == r.0
-}
-
-// How many blocks other than x sit in rack r.
-fn load(at: &[Seat], n: usize, x: usize, r: Rack) -> u32
-    requires { (n ≤ length at.now) × (n ≤ 32) }
-    ensures { result ≡ load_of n at.now x r.0 }
-{
-    let mut m: u32 = 0;
-    for y in 0..n {
-        if lies(at, x, r, y) {
-            m += 1;
-        }
+    // The first of the seats of block x that is open, if one is.
+    fn open_seat(&self, sat: &Sitting, x: u32) -> Option<Seat>
+        ensures { IfSome result (Offers self.now.c (list_at self.now.seats.now x) sat.now.at) }
+    {
+        let open = |v: &&Seat| sat.is_open(self.c, **v);
+        self.list(x).iter().find(open).copied()
     }
-    m
-}
 
-fn marked(seen: u32, y: usize) -> bool
-    requires { y < 32 }
-    ensures { result ≡ member seen y }
-{
-    (seen >> y) & 1 == 1
-}
-
-fn mark(seen: u32, y: usize) -> u32
-    requires { y < 32 }
-    ensures { result ≡ bit_or seen (2 ^ y) }
-{
-    seen | (1 << y)
-}
-
-// Whether block x can have the seat v with no other block moving.
-fn open(at: &[Seat], n: usize, c: u32, x: usize, v: Seat, taken: bool) -> bool
-    requires n_in_bounds { (n ≤ length at.now) × (n ≤ 32) }
-    requires taken { Taken n at.now x v.node.0 taken }
-    ensures yes { result ≡ true → Free n (node_at at.now) x v.node.0 × (load_of n at.now x v.rack.0 < c) }
-    ensures no { result ≡ false → Closed n c at.now x v taken }
-{
-    !taken && load(at, n, x, v.rack) < c
-}
-
-// Whether the seat v is open once block y has given up its own.
-fn gives_way(at: &[Seat], y: usize, v: Seat, taken: bool) -> bool
-    requires { y < length at.now }
-    ensures { result ≡ gives at.now taken y v }
-{
-    if taken {
-        at[y].node.0 == v.node.0
-    } else {
-        at[y].rack.0 == v.rack.0
-    }
-}
-
-// Whether block x can have the seat v once block y has given up its own, and y was not taken out before.
-fn may_try(at: &[Seat], seen: u32, x: usize, y: usize, v: Seat, taken: bool) -> bool
-    requires { (y < length at.now) × (y < 32) }
-    ensures yes { result ≡ true → (y ≢ x) × (member seen y ≡ false) × (gives at.now taken y v ≡ true) }
-    ensures no { result ≡ false → (y ≡ x) ⊎ ((member seen y ≡ true) ⊎ (gives at.now taken y v ≡ false)) }
-{
-    y != x && !marked(seen, y) && gives_way(at, y, v, taken)
-}
-
-// Gives block x, the only one with no seat, one of its own, and moves others where it must.
-#[cycle(displace_place)]
-fn place(seats: &[Seats], n: usize, c: u32, at: &mut [Seat], seen: &mut u32, x: usize) -> bool
-    requires { (n ≤ length seats.now) × ((n ≤ length at.old) × ((n ≤ 32) × (x < n))) }
-    ensures fewer { unseen n seen.new ≤ unseen n seen.old }
-    ensures found { MatchBool result (Seated n c seats.now at.old x seen.old at.new) ((at.new ≡ at.old) × Unseated n c seats.now at.old x seen.old seen.new) }
-{
-    let list = seats[x];
-    for i in 0..list.len {
-        let v = list.at[i];
-        let taken = held(at, n, x, v.node);
-        if open(at, n, c, x, v, taken) {
-            at[x] = v;
-            return true;
+    // Gives block x, the only one with no seat, one of its own: one that is open, or else one for which others move. If none is
+    // found, gives the blocks that were seen and those that were taken out, and leaves all as they sit.
+    #[cycle(displace_make_room_place)]
+    fn place(&self, sat: &mut Sitting, seen: NumberSet, x: u32) -> Result<(), NumberSet>
+        ensures { MatchResult result
+            (λ _. Seated self.now.c self.now.seats.now sat.old.at x seen sat.new.at)
+            (Unseated self.now.c self.now.seats.now sat.old.at x seen sat.new.at) }
+    {
+        if let Some(v) = self.open_seat(sat, x) {
+            sat.put(x, Some(v));
+            return Ok(());
         }
-        if displace(seats, n, c, at, seen, x, v, taken) {
-            return true;
-        }
+        self.make_room(sat, seen, x)
     }
-    false
-}
 
-// Gives x the seat v, and places the block that gives way, for each block that can.
-#[cycle(displace_place)]
-fn displace(
-    seats: &[Seats],
-    n: usize,
-    c: u32,
-    at: &mut [Seat],
-    seen: &mut u32,
-    x: usize,
-    v: Seat,
-    taken: bool,
-) -> bool
-    requires n_in_bounds { (n ≤ length seats.now) × ((n ≤ length at.old) × ((n ≤ 32) × (x < n))) }
-    requires closed { Closed n c at.old x v taken }
-    ensures fewer { unseen n seen.new ≤ unseen n seen.old }
-    ensures found { MatchBool result (Freed n c seats.now at.old x v seen.old at.new) ((at.new ≡ at.old) × Barred n c seats.now at.old x v seen.old seen.new) }
-{
-    let old = at[x];
-    for y in 0..n {
-        if may_try(at, *seen, x, y, v, taken) {
-            *seen = mark(*seen, y);
-            at[x] = v;
-            if place(seats, n, c, at, seen, y) {
-                return true;
+    // The same, but none of the seats is known to be open.
+    #[cycle(displace_make_room_place)]
+    fn make_room(&self, sat: &mut Sitting, seen: NumberSet, x: u32) -> Result<(), NumberSet>
+        ensures { MatchResult result
+            (λ _. Seated self.now.c self.now.seats.now sat.old.at x seen sat.new.at)
+            (Unseated self.now.c self.now.seats.now sat.old.at x seen sat.new.at) }
+    {
+        let mut grown = seen;
+        for v in self.list(x) {
+            match self.displace(sat, grown, x, *v) {
+                Ok(()) => return Ok(()),
+                Err(more) => grown = more,
             }
-            at[x] = old;
         }
+        Err(grown)
     }
-    false
-}
 
-/// Gives block x, the only one with no seat, one of its own; or gives the least tight set, and leaves all as they sit.
-pub(crate) fn extend(
-    seats: &[Seats],
-    n: usize,
-    c: u32,
-    at: &mut [Seat],
-    x: usize,
-) -> Result<(), u32>
-    requires { (n ≤ length seats.now) × ((n ≤ length at.old) × ((n ≤ 32) × (x < n))) }
-    ensures { MatchResult result
-        (λ _. (rack : ℕ → ℕ) (U : ℕ → ℕ → Bool) (N : ℕ) → Placing rack U N n c seats.now at.old x → Settled rack U n c at.new)
-        (λ w. (at.new ≡ at.old) × ((rack : ℕ → ℕ) (U : ℕ → ℕ → Bool) (N : ℕ) → Placing rack U N n c seats.now at.old x → Crowding rack U N n c w)) }
-{
-    let mut seen = mark(0, x);
-    if place(seats, n, c, at, &mut seen, x) {
-        Ok(())
-    } else {
-        Err(seen)
-    }
-}
-
-/// Gives each of the first n blocks a seat; or gives the least tight set of the first of them that cannot all sit.
-pub(crate) fn seat_all(seats: &[Seats], n: usize, c: u32, at: &mut [Seat]) -> Result<(), u32>
-    requires { (n ≤ length seats.now) × ((n ≤ length at.old) × (n ≤ 32)) }
-    ensures { MatchResult result
-        (λ _. (rack : ℕ → ℕ) (U : ℕ → ℕ → Bool) (N : ℕ) → Sized N 32 rack U → Sits rack U n seats.now → Settled rack U n c at.new)
-        (λ w. (rack : ℕ → ℕ) (U : ℕ → ℕ → Bool) (N : ℕ) → Sized N 32 rack U → Sits rack U n seats.now → Refusing rack U N n c w) }
-{
-    for m in 0..n {
-        if let Err(w) = extend(seats, m + 1, c, at, m) {
-            return Err(w);
+    // The same for one seat v of x: each block that keeps it from x gives way and is placed anew, if it was not taken out before.
+    #[cycle(displace_make_room_place)]
+    fn displace(&self, sat: &mut Sitting, seen: NumberSet, x: u32, v: Seat) -> Result<(), NumberSet>
+        ensures { MatchResult result
+            (λ _. Freed self.now.c self.now.seats.now sat.old.at x v seen sat.new.at)
+            (Barred self.now.c self.now.seats.now sat.old.at x v seen sat.new.at) }
+    {
+        let Some(blockers) = sat.blockers(self.c, v) else {
+            sat.put(x, Some(v));
+            return Ok(());
+        };
+        let mut grown = seen;
+        for y in Members::of(blockers) {
+            if grown.has(y) {
+                continue;
+            }
+            let left = sat.put(y, None);
+            let had = sat.put(x, Some(v));
+            match self.place(sat, grown.with(y), y) {
+                Ok(()) => return Ok(()),
+                Err(more) => grown = more,
+            }
+            sat.put(x, had);
+            sat.put(y, left);
         }
+        Err(grown)
     }
-    Ok(())
+
+    /// Gives block x, the only one with no seat, one of its own; or gives the least tight set, and leaves all as they sit.
+    pub(crate) fn extend(&self, sat: &mut Sitting, x: u32) -> Result<(), NumberSet>
+        ensures { MatchResult result
+            (λ _. Extended self.now.c self.now.seats.now sat.old.at x sat.new.at)
+            (Stuck self.now.c self.now.seats.now sat.old.at x sat.new.at) }
+    {
+        self.place(sat, NumberSet::from(0).with(x), x)
+    }
+
+    /// Gives each block a seat; or gives the least tight set of the first of them that cannot all sit.
+    pub(crate) fn seat_all(&self) -> Result<Sitting, NumberSet>
+        ensures { MatchResult result
+            (λ sat. AllSit self.now.c self.now.seats.now sat.at)
+            (NotAllSit self.now.c self.now.seats.now) }
+    {
+        let mut sat = Sitting::new();
+        // A block goes by its number; nothing of the lists is looked at here.
+        for m in 0..self.seats.len() as u32 {
+            self.extend(&mut sat, m)?;
+        }
+        Ok(sat)
+    }
 }

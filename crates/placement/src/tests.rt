@@ -1,10 +1,11 @@
 // The traps of admission and of the first choice.
-use crate::admit::{admit, set_size};
+use crate::admit::admit;
 use crate::plan::plan;
 use blocks::block::Block;
 use blocks::code::Code;
 use blocks::lists::{Blocks, Nodes};
 use site::regular::RegularMap;
+use site::set::NumberSet;
 use site::target::TargetMap;
 use site::{Node, SiteMap};
 use std::test::Fail;
@@ -19,7 +20,7 @@ fn offer<M: SiteMap>(map: &M, c: u32, blocks: &mut Blocks, v: u16, w: u16) -> u3
             let _ = blocks.push(block);
             0
         }
-        Err(set) => set,
+        Err(set) => set.into(),
     }
 }
 
@@ -77,6 +78,6 @@ fn a_tight_set_has_no_bystander(rt: HostRuntime) -> Result<(), Fail> {
     assert_eq!(rt; offer(&map, 2, &mut blocks, 0, 3), 0);
     let set = offer(&map, 2, &mut blocks, 0, 3);
     assert_eq!(rt; set, 14, "positions 2, 3 and 4");
-    assert_eq!(rt; set_size(set), 3);
+    assert_eq!(rt; NumberSet::from(set).len(), 3);
     Ok(())
 }

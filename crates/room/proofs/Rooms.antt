@@ -1,25 +1,33 @@
 -- The tally of yes nodes by rack, one node on; and the space as a sum over the tally.
-use Rattle.std.proofs.Common.{◌≡◌, ℕ, zero, suc, ◌+◌, ◌<◌, ◌≤◌, min, Bool, true, false, ◌&&◌, eqb, List, length, get_or, set, replicate, sym, refl, ap, ◌∙◌, ap₂, inl, inr, add-one, arith}
+use Rattle.std.proofs.Common.{◌≡◌, ℕ, zero, suc, ◌+◌, ◌*◌, ◌<◌, ◌≤◌, min, Bool, true, false, ◌&&◌, eqb, List, [], ◌∷◌, length, sum_by, get_or, set, replicate, sym, refl, ap, ◌∙◌, ap₂, inl, inr, arith}
 use Rattle.std.proofs.lemmas.Bool.{cases_eq, eq-eqb, ne_eqb}
 use Rattle.std.proofs.lemmas.List.{length-set, get_or-set_same, get_or-set_other, get_or-replicate}
 use Rattle.site.specs.Site.{Site, keeps, node_rack}
 use Rattle.choices.specs.Sums.{sum_to, count_to}
 use Rattle.choices.specs.Room.{room, space}
-use Rattle.choices.proofs.Finite.{count_yes, count_no, count-max}
+use Rattle.choices.proofs.Finite.{sum_same, count_yes, count_no, count-max}
+use Rattle.std.proofs.lemmas.List.Sums.{sum_by-cons}
 use Rattle.room.specs.Rooms.{yes_in, Tallied}
 
-pub sum-none : (f : ℕ → ℕ) → 0 ≡ sum_to 0 f
+-- the first of the numbers below a bound, and those after it
+sum-shift : (n : ℕ) (f : ℕ → ℕ) → sum_to (suc n) f ≡ f 0 + sum_to n (λ k. f (suc k))
 unfolding sum_to
-sum-none f = refl
+sum-shift zero f = refl
+sum-shift (suc n) f = let e : sum_to (suc n) f ≡ f 0 + sum_to n (λ k. f (suc k)) = sum-shift n f in omega arith
 
-pub sum_more : (n : ℕ) (f : ℕ → ℕ) → sum_to (n + 1) f ≡ sum_to n f + f n
+-- a sum over a list is one over its places
+pub sum-listed : (f : ℕ → ℕ) (xs : List ℕ) → sum_by f xs ≡ sum_to (length xs) (λ k. f (get_or xs k 0))
 unfolding sum_to
-sum_more n f = rw add-one (omega arith)
+sum-listed f [] = refl
+sum-listed f (x ∷ xs) =
+    sum_by-cons f x xs ∙ ap (λ n. f x + n) (sum-listed f xs) ∙ sym (sum-shift (length xs) (λ k. f (get_or (x ∷ xs) k 0)))
 
-sum_same : (n : ℕ) (f g : ℕ → ℕ) → ((k : ℕ) → k < n → f k ≡ g k) → sum_to n f ≡ sum_to n g
+pub sum-most : (m n : ℕ) (f : ℕ → ℕ) → ((k : ℕ) → k < n → f k ≤ m) → sum_to n f ≤ m * n
 unfolding sum_to
-sum_same zero f g h = refl
-sum_same (suc n) f g h = ap₂ (λ x y. x + y) (h n (omega arith)) (sum_same n f g (λ k l. h k (omega arith)))
+sum-most m zero f h = omega arith
+sum-most m (suc n) f h =
+    let i : sum_to n f ≤ m * n = sum-most m n f (λ k l. h k (omega (arith, l))) in
+    omega (arith, i, h n (omega arith))
 
 count-zero : (p : ℕ → Bool) → 0 ≡ count_to 0 p
 unfolding count_to

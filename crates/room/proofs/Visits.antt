@@ -1,14 +1,14 @@
 -- Visits one after the other, and the count of a plan's nodes by rack, one node on.
-use Rattle.std.proofs.Common.{◌≡◌, ℕ, zero, suc, ◌+◌, ◌-◌, ◌<◌, ◌≤◌, Bool, true, false, cond, not, ◌&&◌, eqb, ltb, List, [], ◌∷◌, ◌++◌, length, get_or, set, replicate, count_by, sym, refl, ap, ◌∙◌, subst, ap₂, inl, inr, arith}
-use Rattle.std.specs.List.{range_with_len}
-use Rattle.std.proofs.lemmas.List.FromFn.{map-range_with_len_more}
-use Rattle.std.proofs.lemmas.Bool.{cases_eq, cases_lt, eq-eqb, ne_eqb}
+use Rattle.std.proofs.Common.{◌≡◌, ℕ, zero, suc, ◌+◌, ◌-◌, ◌<◌, ◌≤◌, true, false, cond, not, ◌&&◌, eqb, ltb, List, [], ◌∷◌, ◌++◌, length, get_or, take, set, replicate, count_by, sym, refl, ap, ◌∙◌, ◌⊎◌, ap₂, inl, inr, arith}
+use Rattle.std.proofs.lemmas.Bool.{cases_eq, eq-eqb, ne_eqb, lt-ltb, le-ltb, and_right}
 use Rattle.std.proofs.lemmas.List.Sums.{sum_by_push, count_by-le-length}
-use Rattle.std.proofs.lemmas.List.{append-nil, append_assoc, map-id, length-append, length-set, get_or-set_same, get_or-set_other, get_or-replicate}
+use Rattle.std.proofs.lemmas.List.{append-nil, append_assoc, take_more, map_push, length-append, length-set, get_or-set_same, get_or-set_other, get_or-replicate}
 use Rattle.site.specs.Site.{Site, keeps, node_rack}
+use Rattle.site.specs.declared.Node.{Node}
+use Rattle.blocks.specs.Lists.{node_numbers}
 use Rattle.choices.specs.Choice.{has, beside}
 use Rattle.choices.specs.Plan.{free, parity}
-use Rattle.room.specs.Plans.{after, Loads, opens}
+use Rattle.room.specs.Plans.{after, Loads}
 
 module _ (s : Site) (c : ℕ) where
   parity-none : (left : ℕ) (taken : List ℕ) → parity s c left taken [] ≡ []
@@ -84,50 +84,33 @@ module _ (s : Site) (taken xs : List ℕ) (l : Loads s taken xs) where
         l.counts r b ∙ (zero_more ∙ sym (sum_by_push (λ w. cond (eqb (node_rack s w) r) 1 0) taken v));
   }
 
-  -- a yes node is free where it is open
-  pub free_open : (c v k : ℕ) → keeps s v ≡ true → node_rack s v ≡ k → k < 32 → free s c taken v ≡ opens c taken xs k v
+  -- a yes node is free where it is not taken and its rack's count is below c
+  pub free_open : (c v k : ℕ) → keeps s v ≡ true → node_rack s v ≡ k → k < 32 → free s c taken v ≡ (not (has v taken) && ltb (get_or xs k 0) c)
   free_open c v k y e h =
       let n : beside s v taken ≡ get_or xs k 0 = ap (λ j. count_by (λ w. eqb (node_rack s w) j) taken) e ∙ sym (l.counts k h) in
       ap₂ (λ b j. b && (not (has v taken) && ltb j c)) y n
 
-  pub load-cond : (b : Bool) (v k : ℕ) → node_rack s v ≡ k → k < 32 → Loads s (cond b (taken ++ v ∷ []) taken) (cond b (set xs k (get_or xs k 0 + 1)) xs)
-  load-cond true v k e h = load-more v k e h
-  load-cond false v k e h = l
+-- a visit of a yes node v of rack k
+module _ (s : Site) (c n : ℕ) (taken xs : List ℕ) (l : Loads s taken xs) (v k : ℕ) (y : keeps s v ≡ true) (e : node_rack s v ≡ k) (h : k < 32)
+    (few : length taken < n) where
+  pub took : has v taken ≡ false → get_or xs k 0 < c → taken ++ v ∷ [] ≡ after s c n taken (v ∷ [])
+  took new room =
+      sym (after_one s c n taken v few
+      ∙ ap (λ b. cond b (taken ++ v ∷ []) taken) (free_open s taken xs l c v k y e h ∙ ap₂ (λ a b. not a && b) new (lt-ltb (get_or xs k 0) c room)))
 
-pub not_free : (s : Site) (c : ℕ) (taken : List ℕ) (v : ℕ) → keeps s v ≡ false → free s c taken v ≡ false
-not_free s c taken v e = ap (λ b. b && (not (has v taken) && ltb (beside s v taken) c)) e
-
--- a visit of a node that is not marked yes
-pub after-pass : (s : Site) (c n : ℕ) (taken : List ℕ) (v : ℕ) → keeps s v ≡ false → after s c n taken (v ∷ []) ≡ taken
-after-pass s c n taken v e =
-    elim (cases_lt (length taken) n) [
-      | inl h ↦ after_one s c n taken v h ∙ ap (λ b. cond b (taken ++ v ∷ []) taken) (not_free s c taken v e)
-      | inr h ↦ after-full s c n taken (v ∷ []) h
-    ]
-
--- a visit of a yes node of rack k
-pub visited : (s : Site) (c n : ℕ) (taken xs : List ℕ) → Loads s taken xs → (v k : ℕ) → keeps s v ≡ true → node_rack s v ≡ k → k < 32 → length taken < n
-    → (m : ℕ) → m ≡ c → (plan ys : List ℕ) → plan ≡ cond (opens m taken xs k v) (taken ++ v ∷ []) taken → ys ≡ cond (opens m taken xs k v) (set xs k (get_or xs k 0 + 1)) xs
-    → (plan ≡ after s c n taken (v ∷ [])) × Loads s plan ys
-visited s c n taken xs l v k y e h few m q plan ys p o =
-    let f : opens m taken xs k v ≡ free s c taken v = ap (λ j. opens j taken xs k v) q ∙ sym (free_open s taken xs l c v k y e h) in
-    let at : Loads s (cond (opens m taken xs k v) (taken ++ v ∷ []) taken) (cond (opens m taken xs k v) (set xs k (get_or xs k 0 + 1)) xs) = load-cond s taken xs l (opens m taken xs k v) v k e h in
-    (p ∙ (ap (λ b. cond b (taken ++ v ∷ []) taken) f ∙ sym (after_one s c n taken v few)), subst (λ t. Loads s t ys) (sym p) (subst (λ t. Loads s (cond (opens m taken xs k v) (taken ++ v ∷ []) taken) t) (sym o) at))
-
-pub after-start : (s : Site) (c n : ℕ) (taken : List ℕ) (from : ℕ) → taken ≡ after s c n taken (range_with_len from (from - from))
-after-start s c n taken from =
-    let e : from - from ≡ 0 = omega arith in rw e (sym (after_none s c n taken))
-
-counting_more : (from k : ℕ) → range_with_len from (k + 1) ≡ range_with_len from k ++ (from + k) ∷ []
-counting_more from k = sym (map-id (range_with_len from (k + 1))) ∙ (map-range_with_len_more (λ v. v) from k (from + k) refl ∙ ap (λ l. l ++ (from + k) ∷ []) (map-id (range_with_len from k)))
-
--- one more node of a span
-pub after-step : (s : Site) (c n : ℕ) (taken before : List ℕ) (from v : ℕ) → from ≤ v → before ≡ after s c n taken (range_with_len from (v - from))
-    → after s c n before (v ∷ []) ≡ after s c n taken (range_with_len from (v + 1 - from))
-after-step s c n taken before from v h e =
-    let k : v + 1 - from ≡ v - from + 1 = omega arith in
-    let w : from + (v - from) ≡ v = omega arith in
-    ap (λ t. after s c n t (v ∷ [])) e ∙ (after-after s c n taken (range_with_len from (v - from)) (v ∷ []) ∙ ap (after s c n taken) (sym (ap (range_with_len from) k ∙ (counting_more from (v - from) ∙ ap (λ j. range_with_len from (v - from) ++ j ∷ []) w))))
+  pub left : (has v taken ≡ true) ⊎ (c ≤ get_or xs k 0) → taken ≡ after s c n taken (v ∷ [])
+  left why =
+      sym (after_one s c n taken v few
+      ∙ ap (λ b. cond b (taken ++ v ∷ []) taken) (free_open s taken xs l c v k y e h
+      ∙ elim why [
+        | inl t ↦ ap (λ a. not a && ltb (get_or xs k 0) c) t
+        | inr m ↦ and_right (not (has v taken)) _ (le-ltb (get_or xs k 0) c m)
+      ]))
 
 pub load-none : (s : Site) (xs : List ℕ) → xs ≡ replicate 32 0 → Loads s [] xs
 load-none s xs e = record { long = ap length e ∙ refl; counts = λ r b. ap (λ t. get_or t r 0) e ∙ get_or-replicate 32 r 0 0 b }
+
+-- one more of some nodes
+pub numbers-more : (vs : List Node) (i : ℕ) → i < length vs
+    → node_numbers (take (i + 1) vs) ≡ node_numbers (take i vs) ++ (get_or vs i (record { 0 = 0 })).0 ∷ []
+numbers-more vs i l = ap node_numbers (take_more vs i (record { 0 = 0 }) l) ∙ map_push (λ v. v.0) (take i vs) (get_or vs i (record { 0 = 0 }))

@@ -1,8 +1,9 @@
 -- A plan that takes parity nodes, and how many of its nodes each rack has.
-use Rattle.std.specs.Prelude.{◌≡◌, ℕ, ◌-◌, ◌<◌, Bool, not, ◌&&◌, List, ◌++◌, length, count_by, nat_eq, nat_lt, slice_index}
+use Rattle.std.specs.Prelude.{◌≡◌, ℕ, ◌-◌, ◌<◌, List, ◌++◌, length, count_by, nat_eq, slice_index}
 use Rattle.site.specs.Site.{Site, node_rack}
-use Rattle.choices.specs.Choice.{has}
 use Rattle.choices.specs.Plan.{parity}
+use Rattle.blocks.specs.Lists.{node_numbers}
+use Rattle.room.specs.declared.parity.Filling.{Filling}
 
 -- a plan after its visit of some nodes, where it is to have n
 abbrev pub after : Site → ℕ → ℕ → List ℕ → List ℕ → List ℕ
@@ -13,6 +14,10 @@ pub record Loads (s : Site) (taken xs : List ℕ) : Type 0 where
   pub long : length xs ≡ 32
   pub counts : (r : ℕ) → r < 32 → slice_index xs r ≡ count_by (λ w. nat_eq (node_rack s w) r) taken
 
--- whether v is not taken yet and its rack r has fewer than c
-abbrev pub opens : ℕ → List ℕ → List ℕ → ℕ → ℕ → Bool
-opens c taken xs r v = not (has v taken) && nat_lt (slice_index xs r) c
+-- the counts of a plan that takes nodes are those of the nodes that it has
+abbrev pub Loaded : Site → Filling → Type 0
+Loaded s p = Loads s (node_numbers p.nodes) p.loads
+
+-- p, where it is to have n nodes, is q after its visit of the nodes vs
+abbrev pub Visited : Site → ℕ → ℕ → Filling → List ℕ → Filling → Type 0
+Visited s c n p vs q = (node_numbers q.nodes ≡ after s c n (node_numbers p.nodes) vs) × Loaded s q

@@ -1,91 +1,63 @@
 // The parity nodes of a plan: all nodes are visited from the start node on, and each that is marked yes, is not taken and
 // whose rack has fewer than c nodes of the plan is taken, until the plan has as many as asked.
-ghost use Rattle.std.specs.Prelude.{◌≡◌, ◌+◌, ◌-◌, ◌<◌, ◌≤◌, min, [], ◌∷◌, ◌++◌, length, take, if◌then◌else◌, slice_index, slice_set};
-ghost use Rattle.std.specs.List.{range_with_len};
+ghost use Rattle.std.specs.Prelude.{◌≡◌, ◌-◌, ◌≤◌, min, [], ◌∷◌, ◌++◌, length};
 ghost use Rattle.choices.specs.Plan.{round, parity as parity_nodes};
-ghost use Rattle.blocks.specs.Blocks.{numbers};
 ghost use Rattle.blocks.specs.Lists.{node_numbers};
-ghost use Rattle.room.specs.Plans.{after, Loads, opens};
+ghost use Rattle.room.specs.Plans.{Loaded, Visited};
 
+use crate::counts::RackCounts;
+use crate::marks::yes_rack;
 use blocks::lists::{Nodes, PLANNED};
-use site::{Mark, Node, Rack, SiteMap};
+use site::{Node, SiteMap};
 
-// One more node of a plan in the count by rack.
-fn load_node<M: SiteMap>(map: &M, nodes: &[Node], i: usize, loads: &mut [u32])
-    requires loads { Loads (M.SiteMap.meaning map.now) (numbers (take i nodes.now)) loads.old }
-    requires i_in_bounds { (i < length nodes.now) × (length nodes.now ≤ 24) }
-    ensures { Loads (M.SiteMap.meaning map.now) (numbers (take (i + 1) nodes.now)) loads.new }
-{
-    match map.node(nodes[i]) {
-        Some((rack, _)) => loads[rack.0 as usize] += 1,
-        None => {}
-    }
+/// A plan that takes nodes, and how many of its nodes each rack has.
+#[derive(Clone, Copy)]
+pub(crate) struct Filling {
+    nodes: Nodes,
+    loads: RackCounts,
 }
 
-// How many nodes of a plan each rack has.
-fn loads_of<M: SiteMap>(map: &M, nodes: &[Node]) -> [u32; 32]
-    requires { length nodes.now ≤ 24 }
-    ensures { Loads (M.SiteMap.meaning map.now) (numbers nodes.now) result }
-{
-    let mut loads = [0; 32];
-    for i in 0..nodes.len() {
-        load_node(map, nodes, i, &mut loads);
-    }
-    loads
-}
-
-// Takes a yes node of a rack, unless it is taken already or the rack has c nodes of the plan.
-fn take_open(plan: &mut Nodes, loads: &mut [u32], c: u32, rack: Rack, v: Node)
-    requires { (length (node_numbers plan.old) < 24) × ((rack.0 < length loads.old) × (slice_index loads.old rack.0 ≤ 24)) }
-    ensures plan { node_numbers plan.new ≡ (if opens c (node_numbers plan.old) loads.old rack.0 v.0 then node_numbers plan.old ++ v.0 ∷ [] else node_numbers plan.old) }
-    ensures loads { loads.new ≡ (if opens c (node_numbers plan.old) loads.old rack.0 v.0 then slice_set loads.old rack.0 (slice_index loads.old rack.0 + 1) else loads.old) }
-{
-    if loads[rack.0 as usize] >= c {
-        return;
-    }
-    if plan.has(v) {
-        return;
-    }
-    let _ = plan.push(v);
-    loads[rack.0 as usize] += 1;
-}
-
-// One more node visited.
-fn visit<M: SiteMap>(map: &M, c: u32, most: usize, plan: &mut Nodes, loads: &mut [u32], v: Node)
-    requires loaded { Loads (M.SiteMap.meaning map.now) (node_numbers plan.old) loads.old }
-    requires most_bound { most ≤ 24 }
-    ensures plan { node_numbers plan.new ≡ after (M.SiteMap.meaning map.now) c most (node_numbers plan.old) (v.0 ∷ []) }
-    ensures loads { Loads (M.SiteMap.meaning map.now) (node_numbers plan.new) loads.new }
-{
-    if plan.len() >= most {
-        return;
-    }
-    match map.node(v) {
-        Some((rack, mark)) => match mark {
-            Mark::Yes => take_open(plan, loads, c, rack, v),
-            Mark::No => {}
-        },
-        None => {}
-    }
-}
-
-// The nodes from `from` on and below `to` visited.
-fn visit_all<M: SiteMap>(
-    map: &M,
+/// Which nodes a plan takes: at most c in a rack of the map, until it has `most`.
+#[derive(Drop)]
+struct Rule<'a, M> {
+    map: &'a M,
     c: u32,
     most: usize,
-    plan: &mut Nodes,
-    loads: &mut [u32],
-    from: u16,
-    to: u16,
-)
-    requires loaded { Loads (M.SiteMap.meaning map.now) (node_numbers plan.old) loads.old }
-    requires most_bound { most ≤ 24 }
-    ensures plan { node_numbers plan.new ≡ after (M.SiteMap.meaning map.now) c most (node_numbers plan.old) (range_with_len from (to - from)) }
-    ensures loads { Loads (M.SiteMap.meaning map.now) (node_numbers plan.new) loads.new }
-{
-    for v in from..to {
-        visit(map, c, most, plan, loads, Node(v));
+    ghost few: { most ≤ 24 },
+}
+
+impl<'a, M: SiteMap> Rule<'a, M> {
+    // A plan with the counts of its nodes.
+    fn loaded(&self, plan: &Nodes) -> Filling
+        ensures plan { result.nodes ≡ plan.now }
+        ensures loads { Loaded (M.SiteMap.meaning self.now.map.now) result }
+    {
+        let mut loads = RackCounts::new();
+        for v in plan.as_slice() {
+            if let Some((rack, _)) = self.map.node(*v) {
+                loads.add(rack);
+            }
+        }
+        Filling {
+            nodes: *plan,
+            loads,
+        }
+    }
+
+    // One more node visited.
+    fn visit(&self, plan: &mut Filling, v: Node)
+        requires { Loaded (M.SiteMap.meaning self.now.map.now) plan.old }
+        ensures { Visited (M.SiteMap.meaning self.now.map.now) self.now.c self.now.most plan.old (v.0 ∷ []) plan.new }
+    {
+        if plan.nodes.len() >= self.most {
+            return;
+        }
+        if let Some(rack) = yes_rack(self.map, v) {
+            if plan.loads.of(rack) < self.c && !plan.nodes.contains(&v) {
+                let _ = plan.nodes.push(v);
+                plan.loads.add(rack);
+            }
+        }
     }
 }
 
@@ -95,7 +67,10 @@ pub fn parity<M: SiteMap>(map: &M, c: u32, left: usize, plan: &mut Nodes, start:
 {
     let taken = plan.len();
     let most = taken + left.min(PLANNED - taken);
-    let mut loads = loads_of(map, plan.as_slice());
-    visit_all(map, c, most, plan, &mut loads, start.0, map.nodes());
-    visit_all(map, c, most, plan, &mut loads, 0, start.0);
+    let rule = Rule { map, c, most };
+    let mut filling = rule.loaded(plan);
+    for v in (start.0..map.nodes()).chain(0..start.0) {
+        rule.visit(&mut filling, Node(v));
+    }
+    *plan = filling.nodes;
 }

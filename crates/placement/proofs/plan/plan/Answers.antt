@@ -1,12 +1,10 @@
 use Rattle.std.proofs.Common.{◌≡◌, ℕ, ◌-◌, ◌<◌, ◌≤◌, min, List, ◌∷◌, ◌++◌, length, ap, ◌∙◌, inl, inr, le_refl, arith}
 use native.Mathlib.Nat.{le-min, min-le_left}
-use Rattle.std.proofs.lemmas.List.{length-map}
 use Rattle.site.specs.Site.{Site}
 use Rattle.choices.specs.Choice.{Copies, choices}
 use Rattle.choices.specs.Plan.{first_of, parity, round, planned}
 use Rattle.choices.proofs.Head.{empty-or, first-choice}
-use Rattle.blocks.specs.Blocks.{copies_of}
-use Rattle.blocks.specs.Lists.{blocks_of, lists_of}
+use Rattle.blocks.specs.Lists.{lists_of}
 use Rattle.placement.proofs.plan.plan.Goals as goal
 
 -- a first choice has no more nodes than there are blocks
@@ -28,20 +26,8 @@ roomy s n k c bs start kept plan more few l e f =
     let r : min (n - k) (24 - length kept) ≡ n - k = omega (arith, min-le_left (n - k) (24 - length kept), le-min (le_refl (n - k)) q) in
     f ∙ ap (λ z. kept ++ parity s c z kept (round s start)) r ∙ ap (λ z. z ++ parity s c (n - k) z (round s start)) e
 
-pub returns-then-len-code : goal.returns-then-len-code
-returns-then-len-code g c =
-    let p = c.args.blocks.now in
-    let n : length (lists_of p) ≡ length (blocks_of p) = length-map (blocks_of p) copies_of in
-    record { planned = λ l. absurd (omega (arith, c.if-len-code.true, c.len.ensures)); over = λ _. c.new.ensures }
-
-pub returns : goal.returns
-returns g c =
-    let p = c.args.blocks.now in
+pub returns-clause-planned : goal.returns-clause-planned
+returns-clause-planned g c = λ l.
     let q = c.args.code.now in
-    let n : length (lists_of p) ≡ length (blocks_of p) = length-map (blocks_of p) copies_of in
-    record {
-      planned = λ l.
-          roomy (g.M.SiteMap.meaning c.args.map.now) q.n q.k q.c (lists_of p) c.args.start.0 _ _ q.more q.few l
-          c.first_choice-nodes.ensures c.parity.ensures;
-      over = λ l. absurd (omega (arith, c.if-len-code.false, c.len.ensures));
-    }
+    roomy (g.M.SiteMap.meaning c.args.map.now) q.n q.k q.c (lists_of c.args.blocks.now) c.args.start.0 _ _ q.more q.few l
+    c.first_choice-nodes.ensures c.parity.ensures

@@ -1,37 +1,40 @@
-use Rattle.std.proofs.Common.{◌≡◌, ◌+◌, ◌-◌, ◌≤◌, min, ◌++◌, length, take, ap, ◌∙◌, subst, arith}
-use native.Mathlib.Nat.{min-le_right}
+use Rattle.std.proofs.Common.{◌≡◌, ◌+◌, ◌-◌, min, Bool, true, false, cond, T, [], ◌∷◌, ◌++◌, length, sym, refl, ap, ◌∙◌, arith}
 use Rattle.std.specs.List.{range_with_len}
-use Rattle.std.proofs.lemmas.List.{length-map}
-use Rattle.choices.specs.Plan.{parity}
+use Rattle.std.proofs.lemmas.List.{length-map, map-id}
+use Rattle.std.proofs.lemmas.Iterator.{YieldsList-from_range}
+use Rattle.std.proofs.lemmas.Iterator.Consumers.{YieldsList-at, YieldsList-from_chain, YieldsList-end}
+use Rattle.choices.specs.Plan.{parity, round}
 use Rattle.blocks.specs.Lists.{node_numbers}
-use Rattle.blocks.specs.declared.lists.Nodes.{Nodes}
-use Rattle.room.specs.Plans.{after, Loads}
-use Rattle.blocks.proofs.Fronts.{length_front}
-use Rattle.room.proofs.Visits.{after-after}
+use Rattle.room.specs.Plans.{after}
+use Rattle.room.proofs.Visits.{after_none, after-after}
 use Rattle.room.proofs.parity.parity.Goals as goal
 
--- a plan has room for 24
-few : (p : Nodes) → length (node_numbers p) ≤ 24
-few p = omega (arith, length-map (take p.len p.at) (λ v. v.0), length_front p.len 24 p.at p.few p.full, p.few)
+ends : (a b : Bool) → T (cond (cond a true true) (cond b true true) false)
+ends true true = tt
+ends true false = tt
+ends false true = tt
+ends false false = tt
 
-pub overflow_sub-taken : goal.overflow_sub-taken
-overflow_sub-taken g c = omega (arith, c.len-taken.ensures, few c.args.plan.now)
+pub loop-v-init : goal.loop-v-init
+loop-v-init g c = (
+  (λ _. tt, λ _. tt),
+  ends c.into_iter-v-iterator.result.a_done c.into_iter-v-iterator.result.b_done,
+  sym (after_none (g.M.SiteMap.meaning c.args.map.now) c.args.c _ (node_numbers c.loaded-filling.result.nodes)),
+  c.loaded-filling.ensures.loads,
+)
 
-pub loads_of-loads-requires : goal.loads_of-loads-requires
-loads_of-loads-requires g c =
-    omega (arith, length-map c.as_slice.result.now (λ v. v.0), ap length c.as_slice.ensures, few c.args.plan.now)
-
-pub visit_all-requires : goal.visit_all-requires
-visit_all-requires g c = record {
-  loaded = subst (λ t. Loads (g.M.SiteMap.meaning c.args.map.now) t c.loads_of-loads.result) c.as_slice.ensures c.loads_of-loads.ensures;
-  most_bound = omega (arith, c.min.ensures, min-le_right c.args.left (24 - c.len-taken.result), c.len-taken.ensures, few c.args.plan.now);
-}
-
-pub visit_all-requires-2 : goal.visit_all-requires-2
-visit_all-requires-2 g c = record {
-  loaded = c.visit_all.ensures.loads;
-  most_bound = omega (arith, c.min.ensures, min-le_right c.args.left (24 - c.len-taken.result), c.len-taken.ensures, few c.args.plan.now);
-}
+pub loop-v-preserved : goal.loop-v-preserved
+loop-v-preserved g c =
+    let s = g.M.SiteMap.meaning c.args.map.now in
+    let most = c.len-taken.result + c.min.result in
+    let i = c.loop-v.invariant in
+    let p = c.in-Some.ensures.goes.on i.1 in (
+      p.0,
+      p.1,
+      c.visit.ensures.0 ∙ ap (λ t. after s c.args.c most t (c.in-Some.v ∷ [])) i.2
+          ∙ after-after s c.args.c most (node_numbers c.loaded-filling.result.nodes) c.loop-v.yielded (c.in-Some.v ∷ []),
+      c.visit.ensures.1,
+    )
 
 pub returns : goal.returns
 returns g c =
@@ -40,13 +43,16 @@ returns g c =
     let a = after s c.args.c most in
     let t = node_numbers c.args.plan.now in
     let v = c.args.start.0 in
-    let z : v - 0 ≡ v = omega arith in
-    let left : c.len-taken.result + c.min.result - length (node_numbers c.args.plan.now) ≡ min c.args.left (24 - length (node_numbers c.args.plan.now)) =
-    let q : c.len-taken.result + c.min.result - length (node_numbers c.args.plan.now) ≡ c.min.result = omega (arith, c.len-taken.ensures) in
-    q ∙ c.min.ensures ∙ ap (λ k. min c.args.left (24 - k)) c.len-taken.ensures in
-    c.visit_all-2.ensures.plan
-    ∙ (ap (λ p. a p (range_with_len 0 (v - 0))) c.visit_all.ensures.plan
-    ∙ (ap (λ k. a (a t (range_with_len v (c.nodes.result - v))) (range_with_len 0 k)) z
-    ∙ (ap (λ k. a (a t (range_with_len v (k - v))) (range_with_len 0 v)) c.nodes.ensures
-    ∙ (after-after s c.args.c most t (range_with_len v (length s - v)) (range_with_len 0 v)
-    ∙ ap (λ k. t ++ parity s c.args.c k t (range_with_len v (length s - v) ++ range_with_len 0 v)) left))))
+    let road = YieldsList-at c.into_iter-v-iterator.ensures.into_iter_gives
+    (YieldsList-from_chain (YieldsList-from_range v c.nodes.result (c.nodes.result - v) c.chain-v-items.ensures.first refl)
+    (YieldsList-from_range 0 v v c.chain-v-items.ensures.second (omega arith)) c.chain-v-items.ensures.first_done c.chain-v-items.ensures.second_done) in
+    let all : c.loop-v.yielded ≡ range_with_len v (c.nodes.result - v) ++ range_with_len 0 v =
+    sym (map-id c.loop-v.yielded) ∙ (YieldsList-end road c.loop-v.yielded _ c.loop-v.yielded_by _ _ c.in-None.is c.next.ensures.steps).0 in
+    let left : c.len-taken.result + c.min.result - length t ≡ min c.args.left (24 - length t) =
+    let l : length t ≡ c.len-taken.result = length-map c.args.plan.now (λ v. v.0) ∙ sym c.len-taken.ensures.value in
+    let q : c.len-taken.result + c.min.result - length t ≡ c.min.result = omega (arith, l) in
+    q ∙ c.min.ensures ∙ ap (λ k. min c.args.left (24 - k)) (sym l) in
+    c.loop-v.invariant.2
+    ∙ ap (λ p. a (node_numbers p) c.loop-v.yielded) c.loaded-filling.ensures.plan
+    ∙ ap (a t) (all ∙ ap (λ k. range_with_len v (k - v) ++ range_with_len 0 v) c.nodes.ensures)
+    ∙ ap (λ k. t ++ parity s c.args.c k t (round s v)) left
