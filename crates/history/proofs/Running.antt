@@ -1,7 +1,7 @@
 -- One more call of a run.
 use Rattle.std.proofs.Common.{◌≡◌, ℕ, zero, suc, ◌+◌, ◌<◌, ◌≤◌, List, [], ◌∷◌, ◌++◌, map, length, get_or, take, drop, set, Some, None, Ok, Err, fold, Option, Result, sym, refl, ap, ◌∙◌, subst, ⊎_elim, arith}
 use Rattle.std.specs.List.{slice_get}
-use Rattle.std.proofs.lemmas.Option.{slice_get-get_or}
+use Rattle.std.proofs.lemmas.Option.{slice_get-get_or, slice_get_within}
 use Rattle.std.proofs.lemmas.List.{take_more, drop-map, drop-set-lt, drop-drop, get_or-map, length-map}
 use Rattle.std.proofs.lemmas.Bool.{cases_eq}
 use Rattle.site.specs.Site.{Site}
@@ -86,15 +86,10 @@ rows_more s cs i h q is r before after rows answered e =
     ∙ (sym (rows-from s start (take i cs) q rows)
     ∙ ap (λ x. rows_left s x rows) (ap (λ x. take i cs ++ x ∷ []) (sym is) ∙ sym (take_more cs i q h))))
 
-nth_in : {X : Type 0} (xs : List X) (i : ℕ) (x : X) → slice_get xs i ≡ Some x → i < length xs
-nth_in [] i x e = let q : ◌≡◌ {A = ℕ} 0 1 = cc in absurd (omega arith)
-nth_in (y ∷ xs) zero x e = omega arith
-nth_in (y ∷ xs) (suc i) x e = omega (arith, nth_in xs i x e)
-
 -- at the end all calls are answered
 pub run-all : (s : Site) (room : ℕ) (cs : List Call) (i : ℕ) (rs : List (Result Answer Refusal)) → length cs ≤ i → Sofar s room cs i rs
     → (j : ℕ) (q : Call) (r : Result Answer Refusal) → slice_get cs j ≡ Some q → slice_get rs j ≡ Some r → AnsweredAfter s room (take j cs) q r
-run-all s room cs i rs h f j q r e g = f j q r (omega (arith, h, nth_in cs j q e)) e g
+run-all s room cs i rs h f j q r e g = f j q r (omega (arith, h, slice_get_within cs j q e)) e g
 
 -- the call at a place, as the rules read it
 pub call_at : (cs : List code.Call) (room i : ℕ) (d : code.Call) → i < length cs → get_or (calls_of cs room) i (call_of (get_or cs i d) room) ≡ call_of (get_or cs i d) room

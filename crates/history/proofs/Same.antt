@@ -1,10 +1,9 @@
 -- Equal ledgers are equal stores, over equal maps.
-use Rattle.std.proofs.Common.{◌≡◌, ℕ, true, List, map, length, Some, None, Option, sym, refl, ap, ◌∙◌, subst, arith}
+use Rattle.std.proofs.Common.{◌≡◌, ℕ, true, List, map, length, Some, None, Option, sym, refl, ap, ◌∙◌, subst}
 use mathlib.Core.Bool.{Bool-set}
 use native.Mathlib.Nat.{ℕ_set}
-use Rattle.blocks.specs.declared.lists.Blocks.{Blocks}
+use Rattle.blocks.specs.declared.block.Block.{Block}
 use Rattle.blocks.specs.declared.code.Code.{Code}
-use Rattle.blocks.specs.Lists.{blocks_of, node_numbers}
 use Rattle.blocks.proofs.Same.{same_blocks, same_nodes, same_code, map-one}
 use Rattle.store.specs.declared.stripe.Stripe.{Stripe}
 use Rattle.store.specs.declared.stripe.Stripe.TheVariants.{Empty, Filling, Sealed}
@@ -14,32 +13,23 @@ use Rattle.store.specs.Fitted.{fitted}
 use Rattle.store.specs.Table.{held_of, helds_of, stripe_of, code_of, ledger_of}
 use Rattle.store.proofs.Held.{map-map}
 
-same-helds : (a b : Blocks) → helds_of a ≡ helds_of b → a ≡ b
+same-helds : (a b : List Block) → helds_of a ≡ helds_of b → a ≡ b
 same-helds a b e =
     let say : led.Block → ℕ × List ℕ = λ h. (h.number, h.copies) in
-    same_blocks a b (sym (map-map say held_of (blocks_of a)) ∙ (ap (map say) e ∙ map-map say held_of (blocks_of b)))
+    same_blocks a b (sym (map-map say held_of a) ∙ (ap (map say) e ∙ map-map say held_of b))
 
 pub same-stripe : (a b : Stripe) → stripe_of a ≡ stripe_of b → a ≡ b
 same-stripe Empty Empty e = refl
-same-stripe Empty (Filling bs) e = let z : ◌≡◌ {A = ℕ} 0 1 = cc in absurd (omega arith)
-same-stripe Empty (Sealed bs p) e = let z : ◌≡◌ {A = ℕ} 0 1 = cc in absurd (omega arith)
-same-stripe (Filling cs) Empty e = let z : ◌≡◌ {A = ℕ} 0 1 = cc in absurd (omega arith)
-same-stripe (Filling cs) (Filling bs) e = let h : helds_of cs ≡ helds_of bs = cc in ap Filling (same-helds cs bs h)
-same-stripe (Filling cs) (Sealed bs p) e = let z : ◌≡◌ {A = ℕ} 0 1 = cc in absurd (omega arith)
-same-stripe (Sealed cs q) Empty e = let z : ◌≡◌ {A = ℕ} 0 1 = cc in absurd (omega arith)
-same-stripe (Sealed cs q) (Filling bs) e = let z : ◌≡◌ {A = ℕ} 0 1 = cc in absurd (omega arith)
-same-stripe (Sealed cs q) (Sealed bs p) e =
-    let h : helds_of cs ≡ helds_of bs = cc in
-    let k : node_numbers q ≡ node_numbers p = cc in
-    ap (λ x. Sealed x q) (same-helds cs bs h) ∙ ap (Sealed bs) (same_nodes q p k)
+same-stripe (Filling cs) (Filling bs) e = ap Filling (same-helds cs bs cc)
+same-stripe (Sealed cs q) (Sealed bs p) e = ap (λ x. Sealed x q) (same-helds cs bs cc) ∙ ap (Sealed bs) (same_nodes q p cc)
+same-stripe a b e = cc
 
 pub same_coded : (a b : Option Code) → code_of a ≡ code_of b → a ≡ b
 same_coded None None e = refl
-same_coded None (Some o) e = let z : ◌≡◌ {A = ℕ} 0 1 = cc in absurd (omega arith)
-same_coded (Some o) None e = let z : ◌≡◌ {A = ℕ} 0 1 = cc in absurd (omega arith)
 same_coded (Some o) (Some u) e =
     let both : ◌≡◌ {A = led.Code} (record { n = o.n; k = o.k; c = o.c }) (record { n = u.n; k = u.k; c = u.c }) = cc in
     ap Some (same_code o u (ap (λ x. x.n) both) (ap (λ x. x.k) both) (ap (λ x. x.c) both))
+same_coded a b e = cc
 
 -- the facts of a store are one, whichever way they were shown
 abbrev Facts : Option Code → List Stripe → Type 0

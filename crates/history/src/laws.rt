@@ -6,8 +6,6 @@ use site::SiteMap;
 use store::store::Store;
 
 /// Equal ledgers are equal stores, over equal maps: a store holds what its ledger holds, and no more.
-pub fn one_store<M: SiteMap>(a: &Store<M>, b: &Store<M>) -> u8
+pub fn one_store<M: SiteMap>(a: &Store<M>, b: &Store<M>)
     ensures { a.now.map ≡ b.now.map → ledger_of a.now ≡ ledger_of b.now → a.now ≡ b.now }
-{
-    0
-}
+{}

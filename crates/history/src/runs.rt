@@ -1,22 +1,14 @@
 // A whole list of calls, sent to a new store.
-ghost use Rattle.std.specs.Prelude.{◌≡◌, length, drop, slice_set};
+ghost use Rattle.std.specs.Prelude.{◌≡◌, length, drop};
 ghost use Rattle.store.specs.Ledger.{ledger};
 ghost use Rattle.store.specs.Table.{ledger_of};
 ghost use Rattle.store.specs.Answers.{lines};
 ghost use Rattle.history.specs.Runs.{calls_of, AllAnswered, rows_left, Alike};
 
+use fixed::slices::put;
 use site::SiteMap;
 use store::store::Store;
 use store::types::{Answer, Call, Refusal, Row};
-
-// Notes an answer where there is a place for it.
-fn note(answers: &mut [Result<Answer, Refusal>], at: usize, answer: Result<Answer, Refusal>)
-    ensures { answers.new ≡ slice_set answers.old at answer }
-{
-    if at < answers.len() {
-        answers[at] = answer;
-    }
-}
 
 /// Makes a store over a map, sends it the calls in their order, each with the same lent rows, and notes as many of the answers
 /// as there are places for. The store's ledger is that of the calls, each answer is the one that the rules give at the ledger
@@ -34,9 +26,9 @@ pub fn run<M: SiteMap>(
     ensures past { drop (length calls.now) answers.new ≡ drop (length calls.now) answers.old }
 {
     let mut store = Store::new(map);
-    for i in 0..calls.len() {
-        let answer = store.call(&calls[i], rows);
-        note(answers, i, answer);
+    for (i, call) in calls.iter().enumerate() {
+        let answer = store.call(call, rows);
+        put(answers, i, answer);
     }
     store
 }

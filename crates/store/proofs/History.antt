@@ -158,20 +158,22 @@ module _ {M : Type 0} (s : Site) (limits : Limits s) (st after : Store M) (q : C
       }
 
 -- a call that writes no rows leaves the caller's as they were
-module _ {M : Type 0} (s : Site) (st after : Store M) (q : Call) (r : Result Answer Refusal) (rows : List Row) (none : written s (ledger_of st) q ≡ []) where
-  spare : (x : Option ℕ) → Loose s (ledger_of st) q r [] [] x → Loose s (ledger_of st) q r rows rows x
-  spare (Some e) a = (a.0, refl)
-  spare None a = (a.0, λ _. subst (λ w. map shown rows ≡ w ++ map shown (drop (length w) rows)) (sym none) refl)
+spare : (s : Site) (l : Ledger) (q : Call) (r : Result Answer Refusal) (rows : List Row) → written s l q ≡ [] → (x : Option ℕ) → Loose s l q r [] [] x → Loose s l q r rows rows x
+spare s l q r rows none (Some e) a = (a.0, refl)
+spare s l q r rows none None a = (a.0, λ _. subst (λ w. map shown rows ≡ w ++ map shown (drop (length w) rows)) (sym none) refl)
 
-  pub rowless : Told s st after q r [] [] → Told s st after q r rows rows
-  rowless t = record {
-    answers = spare (refused_by s (ledger_of st) q) t.answers;
-    names = t.names;
-    noted = t.noted;
-    kept = t.kept;
-    refused = λ h. ((t.refused h).0, refl);
-  }
+pub rowless : {M : Type 0} {s : Site} {st after : Store M} {q : Call} {r : Result Answer Refusal} (rows : List Row) → written s (ledger_of st) q ≡ [] → Told s st after q r [] [] → Told s st after q r rows rows
+rowless {s = s} {st = st} {q = q} {r = r} rows none t = record {
+  answers = spare s (ledger_of st) q r rows none (refused_by s (ledger_of st) q) t.answers;
+  names = t.names;
+  noted = t.noted;
+  kept = t.kept;
+  refused = λ h. ((t.refused h).0, refl);
+}
 
--- the call as it was matched
-pub matched : {M : Type 0} (s : Site) (st after : Store M) (c d : code.Call) (r : Result Answer Refusal) (rows new : List Row) → c ≡ d → Told s st after (call_of d (length rows)) r rows new → Told s st after (call_of c (length rows)) r rows new
-matched s st after c d r rows new e t = subst (λ x. Told s st after (call_of x (length rows)) r rows new) (sym e) t
+-- what is owed of a call that was matched as d, from what the call of its own name tells
+pub owed : {M : Type 0} {s : Site} {st after : Store M} {c d : code.Call} {r : Result Answer Refusal} {rows new : List Row} → Limits s → c ≡ d → Told s st after (call_of d (length rows)) r rows new
+    → (Told s st after (call_of c (length rows)) r rows new) × ((h : List Call) → ledger_of st ≡ ledger s h → Since s h (call_of c (length rows)) (ledger_of after) r rows new)
+owed {s = s} {st = st} {after = after} {c = c} {r = r} {rows = rows} {new = new} limits e t =
+    let told : Told s st after (call_of c (length rows)) r rows new = subst (λ x. Told s st after (call_of x (length rows)) r rows new) (sym e) t in
+    (told, since s limits st after (call_of c (length rows)) r rows new told (roomed c (length rows)))

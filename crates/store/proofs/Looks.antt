@@ -1,40 +1,31 @@
--- Tests over a caller's list of nodes: one node on, where the test stops, and at the end.
-use Rattle.std.proofs.Common.{◌≡◌, ℕ, ◌+◌, ◌-◌, ◌<◌, ◌≤◌, Bool, true, false, List, length, get_or, take, drop, sym, ap, ◌∙◌}
-use Rattle.std.proofs.lemmas.List.{drop_more, drop_all, take_rest}
-use Rattle.std.proofs.lemmas.Bool.{ne_eqb, eq-eqb}
+-- Tests over a caller's list of nodes, as the rules read them.
+use Rattle.std.proofs.Common.{◌≡◌, ℕ, Bool, not, ◌&&◌, eqb, List, [], ◌∷◌, length, drop, is_some, sym, refl, ap, ◌∙◌, ⊎_elim}
+use Rattle.std.proofs.lemmas.Bool.{lt-ltb, le-ltb}
+use Rattle.std.proofs.lemmas.Option.{slice_get_cases}
+use Rattle.std.specs.List.{list_all, list_any, slice_get}
+use Rattle.site.specs.Site.{Site, node_rack}
 use Rattle.site.specs.declared.Node.{Node}
-use Rattle.choices.specs.Choice.{has, every, apart}
+use Rattle.choices.specs.Choice.{every, apart}
 use Rattle.blocks.specs.Blocks.{numbers}
+use Rattle.blocks.proofs.Looks.{has-any}
+use Rattle.store.specs.Stripes.{core, rest}
+use Rattle.store.specs.Refusals.{on_map}
 
-module _ (vs : List Node) (i : ℕ) (d : Node) (h : i < length vs) where
-  pub every_more : (f : ℕ → Bool) → f (get_or vs i d).0 ≡ true → every f (numbers (drop (i + 1) vs)) ≡ every f (numbers (drop i vs))
-  every_more f t = rw (drop_more vs i d h, t)
+-- a node has a place exactly where its number is on the map
+pub placed : (s : Site) (v : ℕ) → is_some (slice_get s v) ≡ on_map s v
+placed s v = ⊎_elim (λ p. ap is_some p.2 ∙ sym (lt-ltb v (length s) p.1)) (λ p. ap is_some p.1 ∙ sym (le-ltb v (length s) p.0)) (slice_get_cases s v).1
 
-  pub every-stop : (f : ℕ → Bool) → f (get_or vs i d).0 ≡ false → every f (numbers (drop i vs)) ≡ false
-  every-stop f t = rw (drop_more vs i d h, t)
+pub every-map : (f : ℕ → Bool) (vs : List Node) → list_all (λ v. f v.0) vs ≡ every f (numbers vs)
+every-map f [] = refl
+every-map f (v ∷ vs) = ap (λ b. f v.0 && b) (every-map f vs)
 
-  pub has_more : (v : ℕ) → ((get_or vs i d).0 ≡ v → ⊥) → has v (numbers (drop (i + 1) vs)) ≡ has v (numbers (drop i vs))
-  has_more v ne = let t = ne_eqb v (get_or vs i d).0 (λ e. ne (sym e)) in rw (drop_more vs i d h, t)
+pub every-rest : (f : ℕ → Bool) (vs : List Node) → list_all (λ v. f v.0) (drop 1 vs) ≡ every f (rest (numbers vs))
+every-rest f [] = refl
+every-rest f (v ∷ vs) = every-map f vs
 
-  pub has-stop : (v : ℕ) → (get_or vs i d).0 ≡ v → has v (numbers (drop i vs)) ≡ true
-  has-stop v e = let t = eq-eqb v (get_or vs i d).0 (sym e) in rw (drop_more vs i d h, t)
+pub apart-first : (vs : List Node) (v : Node) (rest : List Node) (t : Bool) → vs ≡ v ∷ rest → t ≡ list_any (λ w. eqb w.0 v.0) rest → (not t && apart (numbers rest)) ≡ apart (numbers vs)
+apart-first vs v rest t e f = ap (λ b. not b && apart (numbers rest)) (f ∙ has-any (λ w. w.0) v.0 rest) ∙ ap (λ l. apart (numbers l)) (sym e)
 
-  pub apart_more : has (get_or vs i d).0 (numbers (take (length vs - (i + 1)) (drop (i + 1) vs))) ≡ false → apart (numbers (drop (i + 1) vs)) ≡ apart (numbers (drop i vs))
-  apart_more e =
-      let t : has (get_or vs i d).0 (numbers (drop (i + 1) vs)) ≡ false = ap (λ l. has (get_or vs i d).0 (numbers l)) (sym (take_rest vs (i + 1))) ∙ e in
-      rw (drop_more vs i d h, t)
-
-  pub apart-stop : has (get_or vs i d).0 (numbers (take (length vs - (i + 1)) (drop (i + 1) vs))) ≡ true → apart (numbers (drop i vs)) ≡ false
-  apart-stop e =
-      let t : has (get_or vs i d).0 (numbers (drop (i + 1) vs)) ≡ true = ap (λ l. has (get_or vs i d).0 (numbers l)) (sym (take_rest vs (i + 1))) ∙ e in
-      rw (drop_more vs i d h, t)
-
-module _ (vs : List Node) (i : ℕ) (h : length vs ≤ i) where
-  pub every-end : (f : ℕ → Bool) → every f (numbers (drop i vs)) ≡ true
-  every-end f = rw (drop_all i vs h)
-
-  pub has_end : (v : ℕ) → has v (numbers (drop i vs)) ≡ false
-  has_end v = rw (drop_all i vs h)
-
-  pub apart-end : apart (numbers (drop i vs)) ≡ true
-  apart-end = rw (drop_all i vs h)
+-- whether no node but the first lies in the first one's rack
+pub away : (s : Site) (vs : List Node) (r : ℕ) (t : Bool) → r ≡ core s (numbers vs) → t ≡ list_all (λ v. not (eqb (node_rack s v.0) r)) (drop 1 vs) → every (λ v. not (eqb (node_rack s v) (core s (numbers vs)))) (rest (numbers vs)) ≡ t
+away s vs r t e f = ap (λ x. every (λ v. not (eqb (node_rack s v) x)) (rest (numbers vs))) (sym e) ∙ sym (f ∙ every-rest (λ v. not (eqb (node_rack s v) r)) vs)

@@ -1,12 +1,12 @@
 -- How a call's contract is put together: from the refusal that it meets, or from what it notes.
-use Rattle.std.proofs.Common.{◌≡◌, ℕ, ◌<◌, ◌≤◌, Bool, true, false, eqb, ltb, List, [], ◌∷◌, ◌++◌, map, length, get_or, drop, set, Some, None, Ok, Err, Option, Result, sym, refl, ap, ◌∙◌, arith}
-use Rattle.std.proofs.lemmas.Bool.{false≢true, le-ltb, lt-ltb}
+use Rattle.std.proofs.Common.{◌≡◌, ℕ, ◌<◌, ◌≤◌, Bool, true, false, eqb, ltb, List, [], ◌∷◌, ◌++◌, map, length, drop, Some, None, Ok, Err, Option, Result, sym, refl, ap, ◌∙◌, arith}
+use Rattle.std.proofs.lemmas.Bool.{false≢true, le-ltb}
 use Rattle.site.specs.Site.{Site}
 use Rattle.blocks.specs.declared.code.Code.{Code}
 use Rattle.store.specs.declared.types.Row.{Row}
 use Rattle.store.specs.declared.types.Answer.{Answer}
+use Rattle.store.specs.declared.types.Answer.TheVariants.{Done}
 use Rattle.store.specs.declared.types.Refusal.{Refusal}
-use Rattle.store.specs.declared.stripe.Stripe.{Stripe}
 use Rattle.store.specs.declared.store.Store.{Store}
 use Rattle.store.specs.Stripes as led
 use Rattle.store.specs.Stripes.{Ledger, Call}
@@ -14,8 +14,7 @@ use Rattle.store.specs.Refusals.{none, first, checks, fresh, refused_by, number_
 use Rattle.store.specs.Ledger.{put, noted, code_noted, step}
 use Rattle.store.specs.Answers.{accepted, written, shown}
 use Rattle.store.specs.Told.{Told, Answering, Named}
-use Rattle.store.specs.Table.{stripe_of, code_of, ledger_of}
-use Rattle.store.proofs.Held.{stripe-is, put-at}
+use Rattle.store.specs.Table.{code_of, ledger_of}
 
 module _ (s : Site) (l : Ledger) (call : Call) where
   pub coded : (o : led.Code) (x : Option ℕ) → l.code ≡ Some o → first (checks s o l call) ≡ x → refused_by s l call ≡ x
@@ -43,24 +42,11 @@ module _ (s : Site) (l : Ledger) (call : Call) where
   pub step-coded : refused_by s l call ≡ None → l.code ≡ None → step s l call ≡ code_noted l call
   step-coded e f = step_by (refused_by s l call) l.code ∙ (ap (λ x. step_result x l.code) e ∙ ap (step_result None) f)
 
-abbrev pub is_offer : Call → Bool
-is_offer (led.set_up n k c) = false
-is_offer (led.offer b vs) = true
-is_offer (led.seal r v) = false
-is_offer (led.plan r room) = false
-is_offer (led.deletions r room) = false
-is_offer (led.standing r vs w) = false
-is_offer (led.release r) = false
-is_offer (led.abandon r) = false
-
 abbrev pub is_word : Result Answer Refusal → Bool
 is_word (Ok a) = false
 is_word (Err e) = eqb (number_of e) 24
 
 -- only a refused offer has a word
-pub unnamed-call : (s : Site) (l : Ledger) (call : Call) (r : Result Answer Refusal) → is_offer call ≡ false → Named s l call r
-unnamed-call s l call r none o b vs w c e f h = absurd (false≢true (sym none ∙ ap is_offer e))
-
 pub unnamed : (s : Site) (l : Ledger) (call : Call) (r : Result Answer Refusal) → is_word r ≡ false → Named s l call r
 unnamed s l call r none o b vs w c e f h = absurd (false≢true (sym none ∙ ap is_word f))
 
@@ -94,9 +80,6 @@ something [] ne = absurd (ne refl)
 something (x ∷ xs) ne = refl
 
 -- the racks
-pub rack-far : (r : ℕ) → 32 ≤ r → ltb 31 r ≡ true
-rack-far r h = lt-ltb 31 r (omega arith)
-
 pub rack-near : (r : ℕ) → r < 32 → ltb 31 r ≡ false
 rack-near r h = le-ltb 31 r (omega arith)
 
@@ -107,35 +90,14 @@ ruled o = record { n = o.n; k = o.k; c = o.c }
 pub code-some : {M : Type 0} (st : Store M) (o : Code) → st.code ≡ Some o → (ledger_of st).code ≡ Some (ruled o)
 code-some st o e = ap code_of e
 
--- a stripe that is emptied
-module _ {M : Type 0} (s : Site) (st : Store M) (r : ℕ) (d : Stripe) (o : Code) (c : st.code ≡ Some o) (within : r < 32) where
-  pub release-not : (x : Stripe) → get_or st.stripes r d ≡ x → led.is_sealed (stripe_of x) ≡ false → refused_by s (ledger_of st) (led.release r) ≡ Some 27
-  release-not x e n =
-      let a = rack-near r within in
-      let b : led.is_sealed (led.stripe (ledger_of st) r) ≡ false = ap led.is_sealed (stripe-is st r within d x e) ∙ n in
-      coded s (ledger_of st) (led.release r) (ruled o) (Some 27) (code-some st o c) (rw (a, b) refl)
+module _ {M : Type 0} (s : Site) (st : Store M) (o : Code) (c : st.code ≡ Some o) (call : Call) where
+  -- a call that all its checks pass
+  pub passed : first (checks s (ruled o) (ledger_of st) call) ≡ None → refused_by s (ledger_of st) call ≡ None
+  passed m = coded s (ledger_of st) call (ruled o) None (code-some st o c) m
 
-  pub release-done : (x : Stripe) → get_or st.stripes r d ≡ x → led.is_sealed (stripe_of x) ≡ true → refused_by s (ledger_of st) (led.release r) ≡ None
-  release-done x e n =
-      let a = rack-near r within in
-      let b : led.is_sealed (led.stripe (ledger_of st) r) ≡ true = ap led.is_sealed (stripe-is st r within d x e) ∙ n in
-      coded s (ledger_of st) (led.release r) (ruled o) None (code-some st o c) (rw (a, b) refl)
-
-  pub abandon-not : (x : Stripe) → get_or st.stripes r d ≡ x → led.is_empty (stripe_of x) ≡ true → refused_by s (ledger_of st) (led.abandon r) ≡ Some 28
-  abandon-not x e n =
-      let a = rack-near r within in
-      let b : led.is_empty (led.stripe (ledger_of st) r) ≡ true = ap led.is_empty (stripe-is st r within d x e) ∙ n in
-      coded s (ledger_of st) (led.abandon r) (ruled o) (Some 28) (code-some st o c) (rw (a, b) refl)
-
-  pub abandon-done : (x : Stripe) → get_or st.stripes r d ≡ x → led.is_empty (stripe_of x) ≡ false → refused_by s (ledger_of st) (led.abandon r) ≡ None
-  abandon-done x e n =
-      let a = rack-near r within in
-      let b : led.is_empty (led.stripe (ledger_of st) r) ≡ false = ap led.is_empty (stripe-is st r within d x e) ∙ n in
-      coded s (ledger_of st) (led.abandon r) (ruled o) None (code-some st o c) (rw (a, b) refl)
-
-  -- the record at r is another, and nothing else
-  pub put-done : (call : Call) (new : Stripe) (y : led.Stripe) → refused_by s (ledger_of st) call ≡ None → noted s (ruled o) (ledger_of st) call ≡ put (ledger_of st) r y
-      → stripe_of new ≡ y → record { code = code_of st.code; stripes = map stripe_of (set st.stripes r new) } ≡ step s (ledger_of st) call
-  put-done call new y m n e =
-      let two : List led.Stripe → Ledger = λ ss. record { code = code_of st.code; stripes = ss } in
-      ap two (put-at st r within new y e) ∙ (sym n ∙ sym (step-noted s (ledger_of st) call (ruled o) m (code-some st o c)))
+  -- a stripe that is put in its rack's place
+  pub put-done : (after : Store M) (r : ℕ) (y : led.Stripe) → first (checks s (ruled o) (ledger_of st) call) ≡ None → noted s (ruled o) (ledger_of st) call ≡ put (ledger_of st) r y
+      → accepted s (ledger_of st) call ≡ Done → written s (ledger_of st) call ≡ [] → ledger_of after ≡ put (ledger_of st) r y → after.map ≡ st.map → Told s st after call (Ok Done) [] []
+  put-done after r y m n a w e k =
+      let none = passed m in
+      told-done s st call [] after Done [] none (sym a) (λ _. rw w refl) (e ∙ (sym n ∙ sym (step-noted s (ledger_of st) call (ruled o) none (code-some st o c)))) k

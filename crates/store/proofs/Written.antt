@@ -1,12 +1,11 @@
 -- The rows of a plan and of its deletions, one after the other.
-use Rattle.std.proofs.Common.{◌≡◌, ℕ, zero, suc, ◌+◌, ◌-◌, ◌<◌, ◌≤◌, Bool, cond, not, eqb, List, [], ◌∷◌, ◌++◌, map, length, get_or, take, drop, set, Some, None, fold, sum_by, count_by, filter, Option, sym, refl, ap, ◌∙◌, arith}
+use Rattle.std.proofs.Common.{◌≡◌, ℕ, suc, ◌+◌, ◌-◌, ◌<◌, ◌≤◌, cond, not, eqb, List, [], ◌∷◌, ◌++◌, map, length, get_or, take, drop, set, Some, None, filter, Option, sym, refl, ap, ◌∙◌, ◌⊎◌, ⊎_elim, arith}
 use Rattle.std.specs.List.{slice_get}
-use Rattle.std.proofs.lemmas.List.{append_assoc, append-nil, take_all, set_at, drop_more, map-set, map_push, length-map, length_push, length-append, take_more, length-take-le, take_at, take-append-drop, drop-drop, drop_at, get_or-map}
+use Rattle.std.proofs.Math.Seq.{drop-nil}
+use Rattle.std.proofs.lemmas.List.{append_assoc, append-nil, set_at, drop_more, map-set, map_push, length-map, length_push, length-append, take_more, length-take-le, take_at, drop-drop, drop_at, get_or-map}
 use Rattle.std.proofs.lemmas.List.Elements.{filter_more}
 use Rattle.std.proofs.lemmas.Bool.{ne_eqb, eq-eqb}
-use Rattle.blocks.specs.declared.lists.Nodes.{Nodes}
-use Rattle.blocks.specs.Lists.{node_numbers}
-use Rattle.std.proofs.lemmas.List.Sums.{sum_by_more, count_by-le-length, length-filter}
+use Rattle.std.proofs.lemmas.List.Sums.{count_by-le-length, length-filter}
 use Rattle.site.specs.Site.{Site, node_rack}
 use Rattle.site.specs.declared.Node.{Node}
 use Rattle.blocks.specs.Blocks.{numbers, copies_of}
@@ -27,15 +26,11 @@ data-none : (s : Site) (bs : List Block) → data_rows s bs [] ≡ []
 data-none s [] = refl
 data-none s (b ∷ bs) = refl
 
-drop-none : {X : Type 0} (n : ℕ) → drop {A = X} n [] ≡ []
-drop-none zero = refl
-drop-none (suc n) = refl
-
 pub plan-push : (s : Site) (bs : List Block) (p : List ℕ) (v : ℕ) → plan_rows s bs (p ++ v ∷ []) ≡ plan_rows s bs p ++ plan_row s bs (length p) v ∷ []
 plan-push s [] p v =
     let e : 1 + length p ≡ length p - 0 + 1 = omega arith in
     parity-push s 1 p v ∙ ap (λ i. parity_rows s 1 p ++ (1, i, v, node_rack s v) ∷ []) e
-plan-push s (b ∷ bs) [] v = ap (λ l. (0, b.number, v, node_rack s v) ∷ l) (ap (λ l. l ++ parity_rows s 1 (drop (length bs) [])) (data-none s bs) ∙ ap (parity_rows s 1) (drop-none (length bs)))
+plan-push s (b ∷ bs) [] v = ap (λ l. (0, b.number, v, node_rack s v) ∷ l) (ap (λ l. l ++ parity_rows s 1 (drop (length bs) [])) (data-none s bs) ∙ ap (parity_rows s 1) (drop-nil (length bs)))
 plan-push s (b ∷ bs) (u ∷ p) v =
     ap (λ l. (0, b.number, u, node_rack s u) ∷ l) (plan-push s bs p v ∙ ap (λ x. plan_rows s bs p ++ x ∷ []) (row_next (slice_get bs (length p))))
   where
@@ -53,65 +48,12 @@ plan-length s [] p = parity-length s 1 p
 plan-length s (b ∷ bs) [] = ap length (ap (λ l. l ++ parity_rows s 1 (drop (suc (length bs)) [])) (data-none s (b ∷ bs)))
 plan-length s (b ∷ bs) (v ∷ p) = ap suc (plan-length s bs p)
 
--- the deletions of the block at a place, if there is one
-abbrev pub gone_at : Site → List Block → ℕ → ℕ → List Line
-gone_at s bs i v = elim (slice_get bs i) [ Some b ↦ gone_of s b v | None ↦ [] ]
-
-gone-none : (s : Site) (bs : List Block) → gone_rows s bs [] ≡ []
-gone-none s [] = refl
-gone-none s (b ∷ bs) = refl
-
-pub gone-push : (s : Site) (bs : List Block) (p : List ℕ) (v : ℕ) → gone_rows s bs (p ++ v ∷ []) ≡ gone_rows s bs p ++ gone_at s bs (length p) v
-gone-push s [] p v = refl
-gone-push s (b ∷ bs) [] v = ap (λ l. gone_of s b v ++ l) (gone-none s bs) ∙ append-nil (gone_of s b v)
-gone-push s (b ∷ bs) (u ∷ p) v = ap (λ l. gone_of s b u ++ l) (gone-push s bs p v) ∙ sym (append_assoc (gone_of s b u) (gone_rows s bs p) (gone_at s bs (length p) v))
-
 -- writing one more line behind those written
 pub put-more : (P : List Line) (old : List Line) (i : ℕ) (x : Line) → length P ≡ i → i < length old → set (P ++ drop i old) i x ≡ (P ++ x ∷ []) ++ drop (i + 1) old
 put-more P old i x e h = ap (λ l. set (P ++ l) i x) (drop_more old i x h) ∙ set_at P (get_or old i x) (drop (i + 1) old) x i e ∙ sym (append_assoc P (x ∷ []) (drop (i + 1) old))
 
 pub lines-put : (rows : List Row) (i : ℕ) (row : Row) → lines (set rows i row) ≡ set (lines rows) i (shown row)
 lines-put rows i row = map-set shown rows i row
-
--- the block at a place, as the ledger reads it
-abbrev held_at : Option code.Block → Option Block
-held_at None = None
-held_at (Some b) = Some (held_of b)
-
-pub nth-held : (xs : List code.Block) (i : ℕ) → slice_get (map held_of xs) i ≡ held_at (slice_get xs i)
-nth-held [] i = refl
-nth-held (x ∷ xs) zero = refl
-nth-held (x ∷ xs) (suc i) = nth-held xs i
-
-nth-none : {X : Type 0} (xs : List X) (i : ℕ) → slice_get xs i ≡ None → length xs ≤ i
-nth-none [] i e = omega arith
-nth-none (x ∷ xs) zero e = let z : ◌≡◌ {A = ℕ} 0 1 = cc in absurd (omega arith)
-nth-none (x ∷ xs) (suc i) e = omega (arith, nth-none xs i e)
-
-module _ (s : Site) (xs : List code.Block) (i v : ℕ) where
-  pub row-data : (b : code.Block) → slice_get xs i ≡ Some b → plan_row s (map held_of xs) i v ≡ (0, b.number, v, node_rack s v)
-  row-data b e =
-      let n : slice_get (map held_of xs) i ≡ Some (held_of b) = nth-held xs i ∙ ap held_at e in
-      ap (λ (o : Option Block). elim o as (λ _. Line) [ Some a ↦ (0, a.number, v, node_rack s v) | None ↦ (1, i - length (map held_of xs) + 1, v, node_rack s v) ]) n
-
-  pub row-parity : slice_get xs i ≡ None → plan_row s (map held_of xs) i v ≡ (1, i - length xs + 1, v, node_rack s v)
-  row-parity e =
-      let n : slice_get (map held_of xs) i ≡ None = nth-held xs i ∙ ap held_at e in
-      ap (λ (o : Option Block). elim o as (λ _. Line) [ Some a ↦ (0, a.number, v, node_rack s v) | None ↦ (1, i - length (map held_of xs) + 1, v, node_rack s v) ]) n
-      ∙ ap (λ k. (1, i - k + 1, v, node_rack s v)) (length-map xs held_of)
-
-  pub past : slice_get xs i ≡ None → length xs ≤ i
-  past e = nth-none xs i e
-
-  pub gone-some : (b : code.Block) → slice_get xs i ≡ Some b → gone_at s (map held_of xs) i v ≡ gone_of s (held_of b) v
-  gone-some b e =
-      let n : slice_get (map held_of xs) i ≡ Some (held_of b) = nth-held xs i ∙ ap held_at e in
-      ap (λ (o : Option Block). elim o as (λ _. List Line) [ Some a ↦ gone_of s a v | None ↦ [] ]) n
-
-  pub gone-past : slice_get xs i ≡ None → gone_at s (map held_of xs) i v ≡ []
-  gone-past e =
-      let n : slice_get (map held_of xs) i ≡ None = nth-held xs i ∙ ap held_at e in
-      ap (λ (o : Option Block). elim o as (λ _. List Line) [ Some a ↦ gone_of s a v | None ↦ [] ]) n
 
 -- the node at a place of a plan
 pub node_at : (vs : List Node) (p : List ℕ) (i : ℕ) (d : Node) → numbers vs ≡ p → i < length p → (i < length vs) × (get_or p i 0 ≡ (get_or vs i d).0)
@@ -133,29 +75,8 @@ plan-more s bs p old rows i row h k e f =
     lines-put rows i row ∙ (ap (λ l. set l i (shown row)) f ∙ (put-more w (lines old) i (shown row) (plan-length s bs (take i p) ∙ n) (omega (arith, length-map old shown))
     ∙ ap (λ l. l ++ drop (i + 1) (lines old)) (ap (λ x. w ++ x ∷ []) (e ∙ ap (λ j. plan_row s bs j (get_or p i 0)) (sym n)) ∙ (sym (plan-push s bs (take i p) (get_or p i 0)) ∙ ap (plan_rows s bs) (sym (take_more p i 0 h))))))
 
-pub folded_map : {X Y Z : Type 0} (f : Z → Y → Z) (h : X → Y) (a : Z) (xs : List X) → fold f a (map h xs) ≡ fold (λ z x. f z (h x)) a xs
-folded_map f h a [] = refl
-folded_map f h a (x ∷ xs) = folded_map f h (f a (h x)) xs
-
-pub copies_length : (b : code.Block) → length (copies_of b) ≡ b.len
-copies_length b = length-map (take b.len b.nodes) (λ v. v.0) ∙ length-take-le b.len b.nodes (omega (arith, b.few, b.full))
-
--- the copies of one more block
-module _ (xs ys : List code.Block) (i : ℕ) (x : code.Block) (same : ys ≡ xs) (h : i < length ys) (is : x ≡ get_or ys i x) where
-  pub spare_more : sum_by (λ b. length (copies_of b) - 1) (take (i + 1) xs) ≡ sum_by (λ b. length (copies_of b) - 1) (take i xs) + (length (copies_of x) - 1)
-  spare_more =
-      let k : i < length xs = rw (ap length same) at h in
-      sum_by_more (λ b. length (copies_of b) - 1) xs i x k ∙ ap (λ b. sum_by (λ b. length (copies_of b) - 1) (take i xs) + (length (copies_of b) - 1)) (ap (λ l. get_or l i x) (sym same) ∙ sym is)
-
-pub spare-all : (xs : List code.Block) (i : ℕ) → length xs ≤ i → sum_by (λ b. length (copies_of b) - 1) (take i xs) ≡ sum_by (λ b. length b.copies - 1) (map held_of xs)
-spare-all xs i h = ap (sum_by (λ b. length (copies_of b) - 1)) (take_all i xs h) ∙ sym (folded_map (λ a b. a + (length b.copies - 1)) held_of 0 xs)
-
--- one more planned node is counted, or not
-pub count-more : (f : ℕ → Bool) (p : List ℕ) (i : ℕ) (t : Bool) → i < length p → t ≡ f (get_or p i 0) → count_by f (take (i + 1) p) ≡ count_by f (take i p) + cond t 1 0
-count-more f p i t h e = sum_by_more (λ v. cond (f v) 1 0) p i 0 h ∙ ap (λ b. count_by f (take i p) + cond b 1 0) (sym e)
-
-pub nodes-few : (p : Nodes) → length (node_numbers p) ≤ 24
-nodes-few p = omega (arith, length-map (take p.len p.at) (λ v. v.0), length-take-le p.len p.at (omega (arith, p.few, p.full)), p.few)
+pub copies_length : (b : code.Block) → length (copies_of b) ≡ length b.nodes
+copies_length b = length-map b.nodes (λ v. v.0)
 
 pub slice-long : (vs : List Node) (p : List ℕ) → numbers vs ≡ p → length vs ≡ length p
 slice-long vs p e = sym (length-map vs (λ v. v.0)) ∙ ap length e
@@ -212,19 +133,19 @@ module _ (s : Site) (number : ℕ) (copies : List ℕ) (v j : ℕ) (old rows : L
       let same = gone-more-no s number copies v j h is in
       (e ∙ ap (λ l. at + length l) (sym same), λ k. f k ∙ ap (λ l. take at (lines old) ++ (l ++ drop end (lines old))) (sym same))
 
-pub gone-start : (old : List Line) (at : ℕ) → old ≡ take at old ++ ([] ++ drop at old)
-gone-start old at = sym (take-append-drop at old)
-
 pub gone-length : (s : Site) (b : code.Block) (v : ℕ) → length (gone_of s (held_of b) v) ≤ 8
 gone-length s b v =
     let line : ℕ → Line = λ w. (2, b.number, w, node_rack s w) in
     omega (arith, length-map (filter (λ w. not (eqb w v)) (copies_of b)) line, length-filter (λ w. not (eqb w v)) (copies_of b), count_by-le-length (λ w. not (eqb w v)) (copies_of b), copies_length b, b.few)
 
-pub gone-first : (s : Site) (bs : List Block) (old : List Line) → (0 ≡ length (gone_rows s bs [])) × (old ≡ gone_rows s bs [] ++ old)
-gone-first s [] old = (refl, refl)
-gone-first s (b ∷ bs) old = (refl, refl)
+-- the deletions of one more block, and the end
+pub gone-one : (s : Site) (xs ys : List code.Block) (vs ws : List Node) (b : code.Block) (v : Node) (done all : List Line) → xs ≡ b ∷ ys → vs ≡ v ∷ ws → done ++ gone_rows s (map held_of xs) (numbers vs) ≡ all
+    → (done ++ gone_of s (held_of b) v.0) ++ gone_rows s (map held_of ys) (numbers ws) ≡ all
+gone-one s xs ys vs ws b v done all e f h =
+    append_assoc done (gone_of s (held_of b) v.0) (gone_rows s (map held_of ys) (numbers ws))
+    ∙ (ap (λ l. done ++ gone_rows s (map held_of l) (numbers (v ∷ ws))) (sym e) ∙ (ap (λ l. done ++ gone_rows s (map held_of xs) (numbers l)) (sym f) ∙ h))
 
--- the deletions up to one more block
-pub gone-next : (s : Site) (bs : List Block) (p : List ℕ) (i : ℕ) (G : List Line) → i < length p → gone_at s bs i (get_or p i 0) ≡ G → gone_rows s bs (take (i + 1) p) ≡ gone_rows s bs (take i p) ++ G
-gone-next s bs p i G h e =
-    ap (gone_rows s bs) (take_more p i 0 h) ∙ (gone-push s bs (take i p) (get_or p i 0) ∙ (ap (λ j. gone_rows s bs (take i p) ++ gone_at s bs j (get_or p i 0)) (length-take-le i p (omega arith)) ∙ ap (λ l. gone_rows s bs (take i p) ++ l) e))
+pub gone-over : (s : Site) (xs : List code.Block) (vs : List Node) (done all : List Line) → (length xs ≡ 0) ⊎ (length vs ≡ 0) → done ++ gone_rows s (map held_of xs) (numbers vs) ≡ all → done ≡ all
+gone-over s [] vs done all e h = sym (append-nil done) ∙ h
+gone-over s (x ∷ xs) [] done all e h = sym (append-nil done) ∙ h
+gone-over s (x ∷ xs) (v ∷ vs) done all e h = ⊎_elim (λ z. absurd (omega arith)) (λ z. absurd (omega arith)) e

@@ -1,7 +1,6 @@
 -- The ledger that a store stands for, and the call that the rules read in a call of the code.
 use Rattle.std.specs.Prelude.{ℕ, List, map, Some, None, Option}
 use Rattle.blocks.specs.declared.block.Block.{Block}
-use Rattle.blocks.specs.declared.lists.Blocks.{Blocks}
 use Rattle.blocks.specs.declared.code.Code.{Code}
 use Rattle.blocks.specs.Blocks as told
 use Rattle.blocks.specs.Lists as list
@@ -15,8 +14,8 @@ use Rattle.store.specs.Stripes as led
 abbrev pub held_of : Block → led.Block
 held_of b = record { number = b.number; copies = told.copies_of b }
 
-abbrev pub helds_of : Blocks → List led.Block
-helds_of bs = map held_of (list.blocks_of bs)
+abbrev pub helds_of : List Block → List led.Block
+helds_of bs = map held_of bs
 
 abbrev pub stripe_of : Stripe → led.Stripe
 stripe_of Empty = led.empty

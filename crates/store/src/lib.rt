@@ -1,6 +1,7 @@
 // One store over one map for life: its code, the 32 stripes, the eight calls, and the promise over any list of calls.
 #![tactic(auto)]
 
+pub mod access;
 pub mod calls;
 pub mod checks;
 pub mod offers;

@@ -1,85 +1,60 @@
 // Offering a block, and sealing a stripe.
-ghost use Rattle.std.specs.Prelude.{◌≡◌, ◌<◌, [], length, Some};
+ghost use Rattle.std.specs.Prelude.{◌≡◌, ◌<◌, [], length};
 ghost use Rattle.blocks.specs.Blocks.{numbers};
-ghost use Rattle.store.specs.Stripes.{offer, seal, holds, stripe, blocks_of};
-ghost use Rattle.store.specs.Table.{held_of, ledger_of};
+ghost use Rattle.store.specs.Stripes.{offer, seal, stripe, blocks_of};
+ghost use Rattle.store.specs.Table.{held_of, helds_of, ledger_of};
 ghost use Rattle.store.specs.Told.{Told, Tried};
 
-use crate::checks::{all_differ, all_on_map, core_rack, rest_outside};
+use crate::checks::{all_differ, all_on_map, core_rack, on_map};
 use crate::store::Store;
 use crate::stripe::Stripe;
 use crate::types::{Answer, Refusal};
 use blocks::block::Block;
 use blocks::code::Code;
+use blocks::lists::Blocks;
 use placement::admit::admit;
 use placement::plan::plan;
-use site::{Node, RACKS, Rack, SiteMap};
+use site::{Node, Rack, SiteMap};
 
 impl<M: SiteMap> Store<M> {
-    // Whether some stripe holds a block of this number.
-    fn holds(&self, number: u32) -> bool
-        ensures { result ≡ holds (ledger_of self.now).stripes number }
-    {
-        for i in 0..32 {
-            let s = &self.stripes[i];
-            if s.holds(number) {
-                return true;
-            }
-        }
-        false
-    }
-
-    // Adds a block to a stripe that has room for it, if that leaves a choice.
-    fn add(&mut self, code: Code, rack: Rack, block: Block) -> Result<Answer, Refusal>
+    // Adds a block to a stripe, whose blocks are below k, if that leaves a choice: its record is lent.
+    fn add(&mut self, code: Code, rack: Rack, own: &Blocks, block: Block) -> Result<Answer, Refusal>
         requires coded { self.old.code ≡ Some code }
         requires near { rack.0 < 32 }
-        requires below { length (blocks_of (stripe (ledger_of self.old) rack.0)) < code.k }
+        requires own { helds_of own.now ≡ blocks_of (stripe (ledger_of self.old) rack.0) }
+        requires below { length (helds_of own.now) < code.k }
         ensures { Tried (M.meaning self.old.map) code.c rack.0 (held_of block) self.old self.new result }
     {
-        let s = &self.stripes[rack.0 as usize];
-        let own = s.blocks();
-        let position = own.len() as u32 + 1;
-        match admit(&self.map, code.c(), &own, &block) {
-            Err(word) => Err(Refusal::NoChoice(word)),
-            Ok(()) => {
-                let s = &mut self.stripes[rack.0 as usize];
-                s.add(block);
-                Ok(Answer::Position(position))
-            }
-        }
+        admit(&self.map, code.c(), own, &block).map_err(Refusal::NoChoice)?;
+        let record = &mut self.stripes[rack.0 as usize];
+        record.add(block);
+        Ok(Answer::Position(own.len() as u32 + 1))
     }
 
     /// Offers a block with the nodes that hold its copies.
     pub fn offer(&mut self, number: u32, nodes: &[Node]) -> Result<Answer, Refusal>
         ensures { Told (M.meaning self.old.map) self.old self.new (offer number (numbers nodes.now)) result [] [] }
     {
-        let Some(code) = self.code else {
-            return Err(Refusal::NotSetUp);
-        };
-        let Some(block) = Block::new(number, nodes) else {
-            return Err(Refusal::ListLength);
-        };
+        let code = self.code()?;
+        let block = Block::new(number, nodes).ok_or(Refusal::ListLength)?;
         if !all_on_map(&self.map, nodes) {
             return Err(Refusal::OffMap);
         }
         if !all_differ(nodes) {
             return Err(Refusal::NodeTwice);
         }
-        let rack = core_rack(&self.map, nodes);
-        if !rest_outside(&self.map, rack, nodes) {
-            return Err(Refusal::CoreRackAgain);
-        }
+        let rack = core_rack(&self.map, nodes)?;
         if self.holds(number) {
             return Err(Refusal::BlockHeld);
         }
-        let s = &self.stripes[rack.0 as usize];
-        match s {
-            Stripe::Empty => self.add(code, rack, block),
-            Stripe::Filling(blocks) => {
-                if blocks.len() >= code.k() as usize {
+        let stripe = *self.stripe(rack)?;
+        match stripe {
+            Stripe::Empty => self.add(code, rack, &Blocks::new(), block),
+            Stripe::Filling(own) => {
+                if own.len() >= code.k() as usize {
                     return Err(Refusal::StripeFull);
                 }
-                self.add(code, rack, block)
+                self.add(code, rack, &own, block)
             }
             Stripe::Sealed(_, _) => Err(Refusal::StripeFull),
         }
@@ -89,26 +64,20 @@ impl<M: SiteMap> Store<M> {
     pub fn seal(&mut self, rack: Rack, start: Node) -> Result<Answer, Refusal>
         ensures { Told (M.meaning self.old.map) self.old self.new (seal rack.0 start.0) result [] [] }
     {
-        let Some(code) = self.code else {
-            return Err(Refusal::NotSetUp);
-        };
-        if rack.0 >= RACKS {
-            return Err(Refusal::NoSuchRack);
-        }
-        if start.0 >= self.map.nodes() {
+        let code = self.code()?;
+        let found = *self.stripe(rack)?;
+        if !on_map(&self.map, start) {
             return Err(Refusal::OffMap);
         }
-        let s = &self.stripes[rack.0 as usize];
-        match s {
+        match found {
             Stripe::Empty => Err(Refusal::StripeBelowK),
             Stripe::Filling(blocks) => {
                 if blocks.len() < code.k() as usize {
                     return Err(Refusal::StripeBelowK);
                 }
-                let own = *blocks;
-                let nodes = plan(&self.map, &code, &own, start);
-                let s = &mut self.stripes[rack.0 as usize];
-                s.seal(nodes);
+                let nodes = plan(&self.map, &code, &blocks, start);
+                let record = &mut self.stripes[rack.0 as usize];
+                record.seal(nodes);
                 Ok(Answer::Done)
             }
             Stripe::Sealed(_, _) => Err(Refusal::Sealed),

@@ -9,6 +9,7 @@ use crate::checks::rack_of;
 use crate::types::{Kind, Row};
 use blocks::block::Block;
 use blocks::lists::{Blocks, Nodes};
+use fixed::slices::put;
 use site::{Node, SiteMap};
 
 fn row_of<M: SiteMap>(map: &M, kind: Kind, number: u32, node: Node) -> Row
@@ -19,15 +20,6 @@ fn row_of<M: SiteMap>(map: &M, kind: Kind, number: u32, node: Node) -> Row
         number,
         node,
         rack: rack_of(map, node),
-    }
-}
-
-// Writes a row where the caller has one at that place.
-fn put(rows: &mut [Row], at: usize, row: Row)
-    ensures { rows.new ≡ slice_set rows.old at row }
-{
-    if at < rows.len() {
-        rows[at] = row;
     }
 }
 
@@ -58,15 +50,19 @@ pub(crate) fn write_plan<M: SiteMap>(
     plan.len()
 }
 
+// How many copies of a block go when it keeps one.
+fn spare(block: &Block) -> usize
+    ensures value { result ≡ length (held_of block.now).copies - 1 }
+    ensures few { result ≤ 7 }
+{
+    block.nodes().len() - 1
+}
+
 /// How many copies go when each block keeps one.
 pub(crate) fn spare_copies(blocks: &Blocks) -> usize
     ensures { result ≡ sum_by (λ b. length b.copies - 1) (helds_of blocks.now) }
 {
-    let mut sum = 0;
-    for block in blocks.as_slice() {
-        sum += block.nodes().len() - 1;
-    }
-    sum
+    blocks.as_slice().iter().map(spare).sum()
 }
 
 // Writes the deletions of one block from `at` on, and says where they end.
@@ -81,9 +77,11 @@ fn write_gone_of<M: SiteMap>(
     ensures end { result ≡ at + length (gone_of (M.meaning map.now) (held_of block.now) stays.0) }
     ensures rows { result ≤ length rows.old → lines rows.new ≡ take at (lines rows.old) ++ (gone_of (M.meaning map.now) (held_of block.now) stays.0 ++ drop result (lines rows.old)) }
 {
+    // counted here: how many copies go is known only once all are looked at
     let mut end = at;
     for w in block.nodes() {
-        if w.0 != stays.0 {
+        let goes = *w != stays;
+        if goes {
             put(rows, end, row_of(map, Kind::Deleted, block.number(), *w));
             end += 1;
         }
@@ -102,11 +100,8 @@ pub(crate) fn write_gone<M: SiteMap>(
     ensures rows { result ≤ length rows.old → lines rows.new ≡ gone_rows (M.meaning map.now) (helds_of blocks.now) (node_numbers plan.now) ++ drop result (lines rows.old) }
 {
     let mut at = 0;
-    for (i, v) in plan.as_slice().iter().enumerate() {
-        at = match blocks.get(i) {
-            Some(block) => write_gone_of(map, &block, *v, rows, at),
-            None => at,
-        };
+    for (block, v) in blocks.as_slice().iter().zip(plan.as_slice()) {
+        at = write_gone_of(map, block, *v, rows, at);
     }
     at
 }

@@ -14,12 +14,10 @@ impl<M: SiteMap> Store<M> {
     pub fn set_up(&mut self, n: u32, k: u32, c: u32) -> Result<Answer, Refusal>
         ensures { Told (M.meaning self.old.map) self.old self.new (set_up n k c) result [] [] }
     {
-        if let Some(_) = self.code {
+        if self.code.is_some() {
             return Err(Refusal::SetUpBefore);
         }
-        let Some(code) = Code::new(n, k, c) else {
-            return Err(Refusal::OutsideLimits);
-        };
+        let code = Code::new(n, k, c).ok_or(Refusal::OutsideLimits)?;
         if space(&self.map, c) < n {
             return Err(Refusal::SpaceBelowN);
         }

@@ -10,6 +10,7 @@ use blocks::code::Code;
 pub struct Store<M> {
     pub(crate) map: M,
     pub(crate) code: Option<Code>,
+    // A plain table of records in fixed memory, as the project asks.
     pub(crate) stripes: [Stripe; 32],
     ghost full: { length stripes ≡ 32 },
     ghost within: { fitted code stripes ≡ true },

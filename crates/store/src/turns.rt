@@ -1,13 +1,14 @@
 // Making a store, and the calls that empty a stripe.
-ghost use Rattle.std.specs.Prelude.{◌≡◌, []};
-ghost use Rattle.store.specs.Stripes.{start, release, abandon};
+ghost use Rattle.std.specs.Prelude.{◌≡◌, ◌<◌, []};
+ghost use Rattle.store.specs.Stripes.{empty, start, release, abandon};
+ghost use Rattle.store.specs.Ledger.{put};
 ghost use Rattle.store.specs.Table.{ledger_of};
 ghost use Rattle.store.specs.Told.{Told};
 
 use crate::store::Store;
 use crate::stripe::Stripe;
 use crate::types::{Answer, Refusal};
-use site::{RACKS, Rack, SiteMap};
+use site::{Rack, SiteMap};
 
 impl<M: SiteMap> Store<M> {
     /// A store over a map, with no code and all stripes empty.
@@ -22,23 +23,26 @@ impl<M: SiteMap> Store<M> {
         }
     }
 
+    // Empties a rack's stripe: its record is lent.
+    fn clear(&mut self, rack: Rack)
+        requires { rack.0 < 32 }
+        ensures ledger { ledger_of self.new ≡ put (ledger_of self.old) rack.0 empty }
+        ensures map { self.new.map ≡ self.old.map }
+    {
+        let record = &mut self.stripes[rack.0 as usize];
+        record.clear();
+    }
+
     /// Empties a sealed stripe.
     pub fn release(&mut self, rack: Rack) -> Result<Answer, Refusal>
         ensures { Told (M.meaning self.old.map) self.old self.new (release rack.0) result [] [] }
     {
-        let Some(_) = self.code else {
-            return Err(Refusal::NotSetUp);
-        };
-        if rack.0 >= RACKS {
-            return Err(Refusal::NoSuchRack);
-        }
-        let s = &self.stripes[rack.0 as usize];
-        match s {
-            Stripe::Empty => Err(Refusal::NotSealed),
-            Stripe::Filling(_) => Err(Refusal::NotSealed),
+        self.code()?;
+        // the stripe's own state is matched with the call: a form of the project, in abandon, offer and seal too
+        match self.stripe(rack)? {
+            Stripe::Empty | Stripe::Filling(_) => Err(Refusal::NotSealed),
             Stripe::Sealed(_, _) => {
-                let record = &mut self.stripes[rack.0 as usize];
-                record.clear();
+                self.clear(rack);
                 Ok(Answer::Done)
             }
         }
@@ -48,23 +52,11 @@ impl<M: SiteMap> Store<M> {
     pub fn abandon(&mut self, rack: Rack) -> Result<Answer, Refusal>
         ensures { Told (M.meaning self.old.map) self.old self.new (abandon rack.0) result [] [] }
     {
-        let Some(_) = self.code else {
-            return Err(Refusal::NotSetUp);
-        };
-        if rack.0 >= RACKS {
-            return Err(Refusal::NoSuchRack);
-        }
-        let s = &self.stripes[rack.0 as usize];
-        match s {
+        self.code()?;
+        match self.stripe(rack)? {
             Stripe::Empty => Err(Refusal::StripeEmpty),
-            Stripe::Filling(_) => {
-                let filling = &mut self.stripes[rack.0 as usize];
-                filling.clear();
-                Ok(Answer::Done)
-            }
-            Stripe::Sealed(_, _) => {
-                let sealed = &mut self.stripes[rack.0 as usize];
-                sealed.clear();
+            Stripe::Filling(_) | Stripe::Sealed(_, _) => {
+                self.clear(rack);
                 Ok(Answer::Done)
             }
         }

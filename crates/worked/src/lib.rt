@@ -4,11 +4,9 @@
 ghost use Rattle.worked.specs.Worked.{Worked};
 
 /// The examples follow from the rules.
-pub fn worked_examples() -> u8
+pub fn worked_examples()
     ensures { Worked }
-{
-    0
-}
+{}
 
 #[cfg(test)]
 mod tests;

@@ -1,34 +1,20 @@
-use Rattle.std.proofs.Common.{◌≡◌, ◌+◌, ◌<◌, ◌≤◌, map, length, get_or, take, drop, sym, refl, ap, ◌∙◌, subst, arith}
-use Rattle.std.proofs.lemmas.List.{take_all}
+use Rattle.std.proofs.Common.{◌≡◌, ◌+◌, ◌<◌, ◌≤◌, map, length, get_or, take, drop, sym, ap, ◌∙◌, subst, arith}
 use Rattle.store.specs.declared.types.Call.TheVariants as call
 use Rattle.store.specs.Ledger.{ledger}
 use Rattle.store.specs.Told.{Since}
 use Rattle.store.specs.Table.{ledger_of, call_of}
 use Rattle.store.specs.Answers.{shown}
-use Rattle.history.specs.Runs.{calls_of, AllAnswered, rows_left}
+use Rattle.history.specs.Runs.{calls_of, AllAnswered}
 use Rattle.history.proofs.Running.{Sofar, run-ledger, run_more, past_more, rows_more, run-all, call_at, calls-long}
 use Rattle.history.proofs.runs.run.Goals as goal
 
-pub loop-i-init : goal.loop-i-init
-loop-i-init g c = (refl, c.new-store.ensures.ledger, (λ j q r k. absurd (omega (arith, k))), refl, refl)
-
-pub returns : goal.returns
-returns g c =
-    let m = c.args.map in
-    let inv = c.loop-i.invariant in
+pub returns-clause-answers : goal.returns-clause-answers
+returns-clause-answers g c =
     let room = length c.args.rows.now in
     let cs = calls_of c.args.calls.now room in
     let mean = g.M.SiteMap.meaning in
-    let same : c.new-store.result.map ≡ m = c.new-store.ensures.map in
     let end : length cs ≤ c.loop-i.i = omega (arith, calls-long c.args.calls.now room, c.loop-i-test.false) in
-    let all : c.loop-i.i ≡ length c.args.calls.now = omega (arith, c.loop-i.auto.i-end, c.loop-i-test.false) in
-    record {
-      map = inv.0 ∙ same;
-      ledger = inv.1 ∙ (ap (ledger (mean c.new-store.result.map)) (take_all c.loop-i.i cs end) ∙ ap (λ x. ledger (mean x) cs) same);
-      answers = subst (λ x. AllAnswered (mean x) room cs c.loop-i.answers) same (run-all (mean c.new-store.result.map) room cs c.loop-i.i c.loop-i.answers end inv.2);
-      rows = inv.4 ∙ (ap (λ x. rows_left (mean c.new-store.result.map) x (map shown c.args.rows.now)) (take_all c.loop-i.i cs end) ∙ ap (λ x. rows_left (mean x) cs (map shown c.args.rows.now)) same);
-      past = ap (λ n. drop n c.loop-i.answers) (sym all) ∙ (inv.3 ∙ ap (λ n. drop n c.args.answers.now) all);
-    }
+    subst (λ x. AllAnswered (mean x) room cs c.loop-i.answers) c.new-store.ensures.map (run-all (mean c.new-store.result.map) room cs c.loop-i.i c.loop-i.answers end c.loop-i.invariant.2)
 
 pub loop-i-preserved : goal.loop-i-preserved
 loop-i-preserved g c =
@@ -50,7 +36,7 @@ loop-i-preserved g c =
     (subst (λ x. Since x (take i cs) (call_of (get_or calls i d) (length c.loop-i.rows)) (ledger_of c.call-answer.new.self) c.call-answer.result c.loop-i.rows c.call-answer.new.rows) same raw) in (
       c.call-answer.ensures.told.kept ∙ inv.0,
       run-ledger s room cs i h q is (ledger_of c.call-answer.new.self) t.ledgered,
-      subst (Sofar s room cs (i + 1)) (sym c.note.ensures) (run_more s room cs i h q is c.loop-i.answers c.call-answer.result (ledger_of c.call-answer.new.self) c.loop-i.rows c.call-answer.new.rows inv.2 t c.loop-i.auto.rows),
-      ap (drop (i + 1)) c.note.ensures ∙ past_more i c.args.answers.now c.loop-i.answers c.call-answer.result inv.3,
+      subst (Sofar s room cs (i + 1)) (sym c.put.ensures) (run_more s room cs i h q is c.loop-i.answers c.call-answer.result (ledger_of c.call-answer.new.self) c.loop-i.rows c.call-answer.new.rows inv.2 t c.loop-i.auto.rows),
+      ap (drop (i + 1)) c.put.ensures ∙ past_more i c.args.answers.now c.loop-i.answers c.call-answer.result inv.3,
       rows_more s cs i h q is c.call-answer.result c.loop-i.rows c.call-answer.new.rows (map shown c.args.rows.now) t.answered inv.4,
     )

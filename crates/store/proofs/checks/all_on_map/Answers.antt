@@ -1,18 +1,12 @@
-use Rattle.std.proofs.Common.{sym, ◌∙◌}
-use Rattle.std.proofs.lemmas.Bool.{lt-ltb, le-ltb}
+use Rattle.std.proofs.Common.{◌∙◌, rules}
+use Rattle.std.proofs.lemmas.Iterator.{YieldsList-from_slice}
+use Rattle.std.proofs.lemmas.Iterator.Search.{all_from_yields_List}
+use borrow.Author.Tests.{tests}
 use Rattle.store.specs.Refusals.{on_map}
-use Rattle.store.proofs.Looks.{every_more, every-stop, every-end}
+use Rattle.store.proofs.Looks.{every-map}
 use Rattle.store.proofs.checks.all_on_map.Goals as goal
 
-pub loop-v-preserved : goal.loop-v-preserved
-loop-v-preserved g c =
-    every_more c.args.nodes.now c.loop-v.v-index (record { 0 = 0 }) c.loop-v-test.true (on_map (g.M.SiteMap.meaning c.args.map.now))
-    (lt-ltb _ _ (rw c.nodes-count.ensures at c.if-v-count.false)) ∙ c.loop-v.invariant
-
-pub returns-then-v-count : goal.returns-then-v-count
-returns-then-v-count g c =
-    sym (every-stop c.args.nodes.now c.loop-v.v-index (record { 0 = 0 }) c.loop-v-test.true (on_map (g.M.SiteMap.meaning c.args.map.now))
-    (le-ltb _ _ (rw c.nodes-count.ensures at c.if-v-count.true))) ∙ c.loop-v.invariant
-
 pub returns : goal.returns
-returns g c = sym (every-end c.args.nodes.now c.loop-v.v-index c.loop-v-test.false (on_map (g.M.SiteMap.meaning c.args.map.now))) ∙ c.loop-v.invariant
+returns g c =
+    let on = on_map (g.M.SiteMap.meaning c.args.map.now) in
+    all_from_yields_List (λ v. on v.0) _ _ c.all.result c.all.ensures.ran (YieldsList-from_slice c.args.nodes.now cc) (λ x b q k. search (rules, tests)) ∙ every-map on c.args.nodes.now

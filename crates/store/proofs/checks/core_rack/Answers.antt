@@ -1,12 +1,26 @@
-use Rattle.std.proofs.Common.{sym, ap, ◌∙◌, arith}
-use Rattle.store.specs.Stripes.{core}
-use Rattle.blocks.specs.Blocks.{numbers}
-use Rattle.std.proofs.lemmas.List.{nil_from_length}
-use Rattle.store.proofs.Offering.{core_is}
+use Rattle.std.proofs.Common.{not, eqb, refl, ◌∙◌, rules}
+use Rattle.std.proofs.lemmas.Iterator.{YieldsList-from_slice}
+use Rattle.std.proofs.lemmas.Iterator.Adapters.{YieldsList-from_skip}
+use Rattle.std.proofs.lemmas.Iterator.Search.{all_from_yields_List}
+use borrow.Author.Tests.{tests}
+use Rattle.site.specs.Site.{node_rack}
+use Rattle.store.proofs.Looks.{away}
 use Rattle.store.proofs.checks.core_rack.Goals as goal
 
-pub returns-then-nodes-gt0 : goal.returns-then-nodes-gt0
-returns-then-nodes-gt0 g c = c.rack_of.ensures ∙ core_is (g.M.SiteMap.meaning c.args.map.now) c.args.nodes.now (record { 0 = 0 }) c.if-nodes-gt0.true
+pub returns-then-all : goal.returns-then-all
+returns-then-all g c =
+    let s = g.M.SiteMap.meaning c.args.map.now in
+    let r = c.first_rack-rack.result.0 in
+    let t =
+    all_from_yields_List (λ v. not (eqb (node_rack s v.0) r)) _ _ c.all.result c.all.ensures.ran
+    (YieldsList-from_skip 1 (YieldsList-from_slice c.args.nodes.now cc) cc) (λ x b q k. search (rules, tests)) in
+    (c.first_rack-rack.ensures, away s c.args.nodes.now r c.all.result c.first_rack-rack.ensures t ∙ c.if-all.true)
 
-pub returns-else-nodes-gt0 : goal.returns-else-nodes-gt0
-returns-else-nodes-gt0 g c = ap (λ l. core (g.M.SiteMap.meaning c.args.map.now) (numbers l)) (sym (nil_from_length c.args.nodes.now (omega (arith, c.if-nodes-gt0.false))))
+pub returns-else-all : goal.returns-else-all
+returns-else-all g c =
+    let s = g.M.SiteMap.meaning c.args.map.now in
+    let r = c.first_rack-rack.result.0 in
+    let t =
+    all_from_yields_List (λ v. not (eqb (node_rack s v.0) r)) _ _ c.all.result c.all.ensures.ran
+    (YieldsList-from_skip 1 (YieldsList-from_slice c.args.nodes.now cc) cc) (λ x b q k. search (rules, tests)) in
+    (refl, away s c.args.nodes.now r c.all.result c.first_rack-rack.ensures t ∙ c.if-all.false)

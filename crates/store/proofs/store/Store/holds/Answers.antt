@@ -1,18 +1,15 @@
-use Rattle.std.proofs.Common.{sym, ◌∙◌, arith}
-use Rattle.store.proofs.Offering.{look-more, look_stop, look-end}
+use Rattle.std.proofs.Common.{map, ◌∙◌, rules}
+use Rattle.std.proofs.lemmas.Iterator.{YieldsList-from_slice}
+use Rattle.std.proofs.lemmas.Iterator.Search.{any_from_yields_List}
+use borrow.Author.Tests.{tests}
+use Rattle.choices.specs.Choice.{has}
+use Rattle.store.specs.Stripes.{blocks_of}
+use Rattle.store.specs.Table.{stripe_of}
+use Rattle.store.proofs.Held.{holds-any}
 use Rattle.store.proofs.store.Store.holds.Goals as goal
-
-pub loop-i-preserved : goal.loop-i-preserved
-loop-i-preserved g c =
-    let st = c.args.self.now in
-    look-more st.stripes c.args.number c.loop-i.i c.index-self-i.result (omega (arith, st.full, c.loop-i-test.true)) (sym c.if-holds.ensures) ∙ c.loop-i.invariant
-
-pub returns-then-holds : goal.returns-then-holds
-returns-then-holds g c =
-    let st = c.args.self.now in
-    sym (look_stop st.stripes c.args.number c.loop-i.i c.index-self-i.result (omega (arith, st.full, c.loop-i-test.true)) (sym c.if-holds.ensures)) ∙ c.loop-i.invariant
 
 pub returns : goal.returns
 returns g c =
-    let st = c.args.self.now in
-    sym (look-end st.stripes c.args.number c.loop-i.i (omega (arith, st.full, c.loop-i-test.false))) ∙ c.loop-i.invariant
+    let ss = c.args.self.now.stripes in
+    any_from_yields_List (λ s. has c.args.number (map (λ b. b.number) (blocks_of (stripe_of s)))) _ _ c.any.result c.any.ensures.ran (YieldsList-from_slice ss cc) (λ x b q k. search (rules, tests))
+    ∙ holds-any ss c.args.number
