@@ -5,28 +5,32 @@ use Rattle.text.specs.Pieces.{parted}
 use Rattle.text.specs.Rows.{NextLine}
 use Rattle.text.specs.declared.lines.Line.{Line}
 use Rattle.text.specs.declared.fault.Fault.{Fault}
-use Rattle.text.specs.declared.fault.FaultKind.TheVariants.{Count, Sheet}
+use Rattle.text.specs.declared.fault.FaultKind.TheVariants.{Names, Count, Sheet}
 use Rattle.reader.specs.declared.code.CodeValues.{CodeValues}
 use Rattle.reader.specs.declared.form.Form.TheVariants.{Numbers}
 use Rattle.reader.specs.declared.form.Want.TheVariants.{Number}
 use Rattle.reader.specs.Wants.{Fit}
 use Rattle.reader.specs.Rows.{RowFault, Clean, named}
-use Rattle.reader.specs.Names.{code_names, InOrder, OrEmpty}
-use Rattle.reader.specs.Codes.{CodeFault, CodeEnd, CodeRead, code_text}
+use Rattle.reader.specs.Names.{code_names, InOrder, NoOrder, OrEmpty}
+use Rattle.reader.specs.Codes.{CodeFault, CodeRead, code_text}
 use Rattle.reader.proofs.RowLaws.{same-not-after, row_line, row-empty}
-use Rattle.reader.proofs.LineLaws.{line-is}
+use Rattle.reader.proofs.LineLaws.{line-is, CodeEnd}
 use Rattle.reader.proofs.FieldLaws.{row_fits, row-text}
-use Rattle.reader.proofs.NameLaws.{code_apart, one-order, order-some, order-names}
+use Rattle.reader.proofs.NameLaws.{code_apart, one-order, order-names}
 
-pub code-none : (n : ℕ) → Least (CodeFault n []) (at Sheet n 1)
-code-none n =
-    let e : n ≡ n + 0 = omega arith in
-    record {
-      there = inl (omega arith, ap (λ m. at Sheet m 1) e);
-      first = λ g. ⊎_elim (λ p. same-not-after (at Sheet n 1) g (ap (λ m. at Sheet m 1) e ∙ sym p.1))
-          (⊎_elim (λ p. absurd (omega (arith, p.0)))
-          (⊎_elim (λ p. absurd (omega (arith, order-some code_names [] p.0 (omega arith) p.1))) (λ p. absurd (omega (arith, p.0)))));
-    }
+-- the names line is wrong
+code-unnamed : (n : ℕ) (l : List ℕ) (ls : List (List ℕ)) → NoOrder code_names l → Least (CodeFault n (l ∷ ls)) (at Names n 1)
+code-unnamed n l ls none = record {
+  there = inr (inl (omega arith, none, refl));
+  first = λ g. ⊎_elim (λ p. inl (omega (arith, ap (λ x. x.place.line) p.1)))
+      (⊎_elim (λ p. same-not-after (at Names n 1) g (sym p.2))
+      (⊎_elim (λ p. absurd (none p.0 p.1)) (λ p. inl (omega (arith, ap (λ x. x.place.line) p.1)))));
+}
+
+pub code-names-read : (n : ℕ) (ls : List (List ℕ)) (names : Line) (mid : List (List ℕ)) (m : ℕ) → NextLine ls n (Some names) mid m → NoOrder code_names names.bytes.now → (f : Fault) → f ≡ at Names names.number 1 → Least (CodeFault n ls) f
+code-names-read n ls names mid m t none f e =
+    let one = line-is ls n names mid m t in
+    subst (Least (CodeFault n ls)) (sym (e ∙ ap (λ k. at Names k 1) one.1)) (subst (λ l. Least (CodeFault n l) (at Names n 1)) (sym one.0) (code-unnamed n names.bytes.now mid none))
 
 module _ (n : ℕ) (l is : List ℕ) (o : InOrder code_names l is) where
   filled : 0 < length is

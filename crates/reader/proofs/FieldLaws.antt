@@ -1,16 +1,16 @@
 -- The field under a name.
-use Rattle.std.proofs.Common.{◌≡◌, ℕ, ◌+◌, true, false, cond, eqb, List, [], ◌∷◌, map, length, Some, None, sym, refl, ap, ◌∙◌, subst, inl, inr, ⊎_elim, Bor}
+use Rattle.std.proofs.Common.{◌≡◌, ℕ, suc, ◌+◌, true, false, cond, eqb, List, [], ◌∷◌, map, length, drop, Some, None, Option, MatchOption, slice_get, refl, ap, ◌∙◌, subst, inl, inr, ⊎_elim, arith, Bor}
+use Rattle.std.specs.Option.{option_map}
+use Rattle.std.specs.List.{position_from}
 use Rattle.std.proofs.lemmas.Bool.{or_cases, cases_eq, eq-eqb, ne_eqb, and_parts, not-true, both_ways, or_left, or_right}
-use Rattle.text.specs.Cells.{Cell, cells, cells_from, NextToken}
+use Rattle.text.specs.Cells.{Cell, cells, cells_from}
 use Rattle.text.specs.Faults.{at}
 use Rattle.text.specs.Orders.{elem, distinct}
 use Rattle.text.specs.Pieces.{parted}
-use Rattle.text.specs.declared.place.Place.{Place}
-use Rattle.text.specs.declared.token.Token.TheVariants as token
 use Rattle.text.specs.declared.fault.FaultKind.TheVariants.{Count}
 use Rattle.reader.specs.declared.form.Form.{Form}
 use Rattle.reader.specs.Wants.{want_of, Fit}
-use Rattle.reader.specs.Rows.{named, FaultAt, RowFault, Clean}
+use Rattle.reader.specs.Rows.{named, FaultAt, RowFault, Clean, held}
 
 abbrev pub bytes_of : List Cell → List (List ℕ)
 bytes_of [] = []
@@ -20,18 +20,45 @@ pub bytes-from : (column : ℕ) (fs : List (List ℕ)) → bytes_of (cells_from 
 bytes-from column [] = refl
 bytes-from column (f ∷ fs) = ap (λ l. f ∷ l) (bytes-from (column + (length f + 1)) fs)
 
-module _ (i : ℕ) (is : List ℕ) (name : ℕ) where
-  pub found_here : (cs after : List Cell) (line end line' end' : ℕ) (bytes : Bor (List ℕ)) (place : Place) → NextToken cs line end (token.Field bytes place) after line' end' → i ≡ name → Some bytes.now ≡ named (i ∷ is) name (bytes_of cs)
-  found_here [] after line end line' end' bytes place t e = absurd t
-  found_here (c ∷ cs) after line end line' end' bytes place t e = ap Some t.0 ∙ sym (ap (λ b. cond b (Some c.bytes) (named is name (bytes_of cs))) (eq-eqb i name e))
+-- the field under a name stands where the name stands among the names
+abbrev Placed : ℕ → ℕ → List ℕ → List (List ℕ) → Option ℕ → Type 0
+Placed name k is fs r = MatchOption r (named is name fs ≡ None) (λ at. (j : ℕ) × (at ≡ k + j) × (named is name fs ≡ slice_get fs j))
 
-  pub not-here : (cs after : List Cell) (line end line' end' : ℕ) (bytes : Bor (List ℕ)) (place : Place) → NextToken cs line end (token.Field bytes place) after line' end' → (i ≡ name → ⊥) → named (i ∷ is) name (bytes_of cs) ≡ named is name (bytes_of after)
-  not-here [] after line end line' end' bytes place t e = absurd t
-  not-here (c ∷ cs) after line end line' end' bytes place t e = ap (λ b. cond b (Some c.bytes) (named is name (bytes_of cs))) (ne_eqb i name e) ∙ ap (λ l. named is name (bytes_of l)) (sym t.2)
+placed : (name k : ℕ) (is : List ℕ) (fs : List (List ℕ)) → Placed name k is fs (position_from (λ i. eqb i name) k is)
+placed name k [] fs = refl
+placed name k (i ∷ is) fs =
+    elim (eqb i name) as (λ b. eqb i name ≡ b → Placed name k (i ∷ is) fs (cond b (Some k) (position_from (λ i. eqb i name) (k + 1) is))) [
+      | true ↦ λ t. (0, omega arith, here fs t)
+      | false ↦ λ t. past fs t (position_from (λ i. eqb i name) (k + 1) is) (placed name (k + 1) is (drop 1 fs))
+    ] refl where
+      here : (fs : List (List ℕ)) → eqb i name ≡ true → named (i ∷ is) name fs ≡ slice_get fs 0
+      here [] t = refl
+      here (f ∷ fs) t = ap (λ b. cond b (Some f) (named is name fs)) t
 
-  pub none_left : (cs after : List Cell) (line end line' end' : ℕ) (place : Place) → NextToken cs line end (token.End place) after line' end' → None ≡ named (i ∷ is) name (bytes_of cs)
-  none_left [] after line end line' end' place t = refl
-  none_left (c ∷ cs) after line end line' end' place t = absurd t
+      past : (fs : List (List ℕ)) → eqb i name ≡ false → (r : Option ℕ) → Placed name (k + 1) is (drop 1 fs) r → Placed name k (i ∷ is) fs r
+      past [] t None p = refl
+      past [] t (Some at) p = (suc p.0, omega (arith, p.1), refl)
+      past (f ∷ fs) t None p = ap (λ b. cond b (Some f) (named is name fs)) t ∙ p
+      past (f ∷ fs) t (Some at) p = (suc p.0, omega (arith, p.1), ap (λ b. cond b (Some f) (named is name fs)) t ∙ p.2)
+
+pub named-some : (is : List ℕ) (name : ℕ) (fs : List (List ℕ)) (at : ℕ) → position_from (λ i. eqb i name) 0 is ≡ Some at → named is name fs ≡ slice_get fs at
+named-some is name fs at e =
+    let p = subst (Placed name 0 is fs) e (placed name 0 is fs) in
+    let same : p.0 ≡ at = omega (arith, p.1) in
+    p.2 ∙ ap (slice_get fs) same
+
+pub named-none : (is : List ℕ) (name : ℕ) (fs : List (List ℕ)) → position_from (λ i. eqb i name) 0 is ≡ None → named is name fs ≡ None
+named-none is name fs e = subst (Placed name 0 is fs) e (placed name 0 is fs)
+
+pub held-map : (o : Option (Bor (List ℕ))) → held o ≡ option_map (λ x. x.now) o
+held-map None = refl
+held-map (Some bytes) = refl
+
+pub held-some : (o : Option (Bor (List ℕ))) (f : List ℕ) → held o ≡ Some f → (b : Bor (List ℕ)) × (o ≡ Some b) × (b.now ≡ f)
+held-some None f e = let z : ◌≡◌ {A = ℕ} 0 1 = cc in absurd (omega arith)
+held-some (Some b) f e = (b, refl, same_some b.now f e) where
+  same_some : (x y : List ℕ) → Some x ≡ Some y → x ≡ y
+  same_some x y e = cc
 
 -- a field under each name, and each is what is wanted
 abbrev pub FitsRow : Form → List ℕ → List (List ℕ) → Type 0

@@ -7,7 +7,6 @@ use Rattle.std.proofs.lemmas.Bool.{cases_Bool, both_ways, cases_eq, cases_lt, eq
 use Rattle.std.proofs.ByRecursion.{All-push}
 use Rattle.site.specs.Site.{Place}
 use Rattle.site.specs.Maps.{window, listed}
-use Rattle.site.specs.declared.Mark.{Mark}
 use Rattle.text.specs.Faults.{Least}
 use Rattle.text.specs.Numbers.{is_number}
 use Rattle.text.specs.Orders.{elem}
@@ -29,13 +28,6 @@ use Rattle.reader.proofs.FieldLaws.{FitsRow, row_fits, row-text}
 use Rattle.reader.proofs.NameLaws.{order-names}
 use Rattle.reader.proofs.PickLaws.{picks-all}
 use Rattle.reader.proofs.CodeLaws.{ReadAs}
-
--- a field that fits is the text of the mark that is read from it
-pub fit-mark : (bs : List ℕ) (m : Mark) → bs ≡ mark_text m → (f : List ℕ) → bs ≡ f → f ≡ mark_text m
-fit-mark bs m e f is = sym is ∙ e
-
-pub unfit-mark : (bs : List ℕ) → ((m : Mark) → bs ≡ mark_text m → ⊥) → (f : List ℕ) → bs ≡ f → Fit Keep f → ⊥
-unfit-mark bs none f is fit = fit kind.Field (refl, λ m e. none m (is ∙ e))
 
 -- a node whose number fits is one of the first 256
 fit-few : (count : ℕ) (bs : List ℕ) → Fit (Next count) bs → count ≤ 255

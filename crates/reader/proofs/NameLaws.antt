@@ -6,7 +6,7 @@ use Rattle.std.proofs.lemmas.Bool.{and_parts, eqb-true, eq-eqb, or_right, or_lef
 use Rattle.text.specs.Orders.{elem, distinct, Order, Apart, Ordered}
 use Rattle.text.specs.Pieces.{parted}
 use Rattle.text.proofs.OrderExact.{order-found}
-use Rattle.reader.specs.Names.{code_names, regular_names, node_names, call_names, InOrder, OrderFound}
+use Rattle.reader.specs.Names.{code_names, regular_names, node_names, call_names, InOrder, NoOrder, OrderFound}
 
 pub elem_at : (xs : List ℕ) (j x : ℕ) → j < length xs → get_or xs j 0 ≡ x → elem x xs ≡ true
 elem_at [] j x h e = absurd (omega arith)
@@ -33,6 +33,13 @@ apart-by-first ns d i j h k e =
 pub found-order : (n : ℕ) (names : List (List ℕ)) (line : List ℕ) (r : Option (List ℕ)) → n ≡ length names → Apart names → Ordered n names (parted 44 line) r → OrderFound names line r
 found-order n names line None e apart h = λ is o. h apart is (subst (λ m. Order m names (parted 44 line) is) (sym e) o)
 found-order n names line (Some is) e apart h = subst (λ m. Order m names (parted 44 line) is) e h
+
+-- an order that is found is one, and where none is found there is none
+pub found-is : (n : ℕ) (names : List (List ℕ)) (line : List ℕ) (r : Option (List ℕ)) (is : List ℕ) → n ≡ length names → Apart names → Ordered n names (parted 44 line) r → r ≡ Some is → InOrder names line is
+found-is n names line r is e apart h s = subst (OrderFound names line) s (found-order n names line r e apart h)
+
+pub found-none : (n : ℕ) (names : List (List ℕ)) (line : List ℕ) (r : Option (List ℕ)) → n ≡ length names → Apart names → Ordered n names (parted 44 line) r → r ≡ None → NoOrder names line
+found-none n names line r e apart h s = subst (OrderFound names line) s (found-order n names line r e apart h)
 
 pub code_apart : Apart code_names
 code_apart = apart-by-first code_names refl

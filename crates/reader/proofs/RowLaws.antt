@@ -5,8 +5,8 @@ use Rattle.text.specs.Cells.{Cell, cells, cells_from, cells_left, end_of, NextTo
 use Rattle.text.specs.Faults.{at, number_of, NotAfter, Least}
 use Rattle.text.specs.Pieces.{pieces, rest, glued, length_of}
 use Rattle.text.specs.declared.place.Place.{Place}
-use Rattle.text.specs.declared.token.Lexer.{Lexer}
-use Rattle.text.specs.declared.token.Token.TheVariants as token
+use Rattle.text.specs.declared.lexer.Lexer.{Lexer}
+use Rattle.text.specs.declared.lexer.Token.TheVariants as token
 use Rattle.text.specs.declared.fault.Fault.{Fault}
 use Rattle.text.specs.declared.fault.FaultKind.{FaultKind}
 use Rattle.text.specs.declared.fault.FaultKind.TheVariants.{Count}

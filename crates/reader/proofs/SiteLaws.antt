@@ -14,17 +14,13 @@ use Rattle.reader.specs.Wants.{Fit}
 use Rattle.reader.specs.Rows.{RowFault, Clean, named}
 use Rattle.reader.specs.Names.{regular_names, node_names, InOrder, OrEmpty}
 use Rattle.reader.specs.Listings.{NodesFault, NodesRead, past_part, past_number}
-use Rattle.reader.specs.Sites.{RegularFault, RegularText, regular_text, RegularRead, RegularEnd, SitePartFault, SiteText, SiteRead}
+use Rattle.reader.specs.Sites.{RegularFault, RegularText, regular_text, RegularRead, SitePartFault, SiteText, SiteRead}
 use Rattle.reader.proofs.RowLaws.{Same, same-not-after, row_line, row-empty, least-same, clean-same}
-use Rattle.reader.proofs.LineLaws.{line-is, no_bytes}
+use Rattle.reader.proofs.LineLaws.{line-is, RegularEnd}
 use Rattle.reader.proofs.FieldLaws.{row_fits, row-text}
 use Rattle.reader.proofs.NameLaws.{regular-apart, node-apart, one-order, order-some, order-names, order-fields}
 use Rattle.reader.proofs.CodeLaws.{ReadAs}
 use Rattle.reader.proofs.ListingLaws.{listed-whole}
-
-pub regular-ends : (ls : List (List ℕ)) (n : ℕ) (line : Line) (after : List (List ℕ)) (m : ℕ) → NextLine ls n (Some line) after m → length line.bytes.now ≡ 0 → RegularEnd ls n (Ok tt) after m
-regular-ends [] n line after m t e = absurd t
-regular-ends (l ∷ ls) n line after m t e = (no_bytes l (ap length (sym t.0) ∙ e), t.2, t.3)
 
 module _ (n : ℕ) (is : List ℕ) (some : 0 < length is) where
   pub regular-row : (ls : List (List ℕ)) (f : Fault) → Least (RowFault Numbers is n (get_or ls 0 [])) f → Least (RegularFault is n ls) f

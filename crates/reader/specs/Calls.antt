@@ -13,7 +13,7 @@ use Rattle.reader.specs.declared.calls.Asked.{Asked}
 use Rattle.reader.specs.declared.calls.Asked.TheVariants.{Offer, Seal, Plan, Deletions, Release, Abandon}
 use Rattle.reader.specs.declared.calls.CallLine.{CallLine}
 use Rattle.reader.specs.declared.form.Form.{Form}
-use Rattle.reader.specs.declared.form.Form.TheVariants.{Call, Unknown}
+use Rattle.reader.specs.declared.form.Form.TheVariants.{Call}
 use Rattle.reader.specs.Letters.{letter, letter_of}
 use Rattle.reader.specs.Rows.{RowFault, Clean, named}
 use Rattle.reader.specs.Names.{call_names, InOrder, NoOrder}
@@ -38,13 +38,9 @@ abbrev pub call_of : Option (List ℕ) → Option Act
 call_of None = None
 call_of (Some f) = letter f
 
-abbrev pub form_of : Option Act → Form
-form_of None = Unknown
-form_of (Some a) = Call a
-
 -- the form of a call's line, by its letter
 abbrev pub call_form : List ℕ → List ℕ → Form
-call_form is line = form_of (call_of (named is 0 (parted 44 line)))
+call_form is line = Call (call_of (named is 0 (parted 44 line)))
 
 -- a fault of a call's line: what stands under `rest` is judged only where the letter is known
 abbrev pub CallFault : List ℕ → ℕ → List ℕ → Fault → Type 0

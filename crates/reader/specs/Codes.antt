@@ -1,5 +1,5 @@
 -- The code part of a sheet: what can be wrong with it, and what it says.
-use Rattle.std.specs.Prelude.{◌≡◌, ℕ, ◌+◌, ◌<◌, ◌≤◌, ◌⊎◌, List, [], ◌∷◌, map, length, drop, Ok, Err, decimal, Result, slice_index, slice_index_or}
+use Rattle.std.specs.Prelude.{◌≡◌, ℕ, ◌+◌, ◌<◌, ◌≤◌, ◌⊎◌, List, [], ◌∷◌, map, length, drop, decimal, slice_index, slice_index_or}
 use Rattle.text.specs.Faults.{at}
 use Rattle.text.specs.Pieces.{parted}
 use Rattle.text.specs.declared.fault.Fault.{Fault}
@@ -40,10 +40,3 @@ pub record CodeRead (n : ℕ) (ls : List (List ℕ)) (v : CodeValues) (after : L
   pub long : 3 ≤ length ls
   pub after_it : after ≡ drop 3 ls
   pub next : m ≡ n + 3
-
--- the line that is to end the code part
-abbrev pub CodeEnd : List (List ℕ) → ℕ → Result Unit Fault → List (List ℕ) → ℕ → Type 0
-CodeEnd [] n (Ok u) after m = ⊥
-CodeEnd [] n (Err f) after m = f ≡ at Sheet n 1
-CodeEnd (l ∷ ls) n (Ok u) after m = (l ≡ []) × (after ≡ ls) × (m ≡ n + 1)
-CodeEnd (l ∷ ls) n (Err f) after m = (0 < length l) × (f ≡ at Count n 1)

@@ -15,6 +15,12 @@ abbrev pub byte_act : ℕ → Option Act
 byte_act b =
     cond (b == 111) (Some Offer) (cond (b == 115) (Some Seal) (cond (b == 112) (Some Plan) (cond (b == 100) (Some Deletions) (cond (b == 114) (Some Release) (cond (b == 97) (Some Abandon) None)))))
 
+-- the byte of a text of one
+abbrev pub only_byte : List ℕ → Option ℕ
+only_byte [] = None
+only_byte (b ∷ []) = Some b
+only_byte (b ∷ c ∷ bs) = None
+
 abbrev pub letter : List ℕ → Option Act
 letter [] = None
 letter (b ∷ []) = byte_act b

@@ -1,6 +1,7 @@
 pub mod Letters
 pub mod Wants
 pub mod Rows
+pub mod ValueRows
 pub mod Names
 pub mod Codes
 pub mod Listings

@@ -1,8 +1,12 @@
 -- The names lines of a sheet.
-use Rattle.std.specs.Prelude.{◌≡◌, ℕ, ◌+◌, ◌<◌, List, [], ◌∷◌, length, take, drop, codes, Option, MatchOption, slice_index_or}
+use Rattle.std.specs.Prelude.{◌≡◌, ℕ, ◌+◌, ◌<◌, ◌≤◌, List, [], ◌∷◌, length, take, drop, codes, Some, None, Ok, Err, Option, Result, MatchOption, slice_index_or}
 use Rattle.text.specs.Orders.{Order}
 use Rattle.text.specs.Pieces.{parted}
+use Rattle.text.specs.Faults.{at}
+use Rattle.text.specs.Rows.{NextLine}
 use Rattle.text.specs.declared.lines.Line.{Line}
+use Rattle.text.specs.declared.fault.Fault.{Fault}
+use Rattle.text.specs.declared.fault.FaultKind.TheVariants.{Sheet}
 
 abbrev pub code_names : List (List ℕ)
 code_names = codes "n" ∷ codes "k" ∷ codes "c" ∷ codes "targets" ∷ []
@@ -34,3 +38,9 @@ pub record OrEmpty (ls : List (List ℕ)) (n : ℕ) (line : Line) (after : List 
   pub number : line.number ≡ n
   pub after_it : after ≡ drop 1 ls
   pub next : 0 < length ls → m ≡ n + 1
+  pub rests : length ls ≡ 0 → m ≡ n
+
+-- the next line; or that there is none, which is told as a missing part
+abbrev pub NextPart : List (List ℕ) → ℕ → Result Line Fault → List (List ℕ) → ℕ → Type 0
+NextPart ls n (Ok line) after m = NextLine ls n (Some line) after m × (length line.bytes.now ≤ 65536)
+NextPart ls n (Err f) after m = NextLine ls n None after m × (f ≡ at Sheet n 1)

@@ -1,5 +1,5 @@
 -- The site part of a sheet: what can be wrong with it, and what it says.
-use Rattle.std.specs.Prelude.{◌≡◌, ℕ, ◌+◌, ◌<◌, ◌≤◌, ◌⊎◌, List, [], ◌∷◌, map, length, take, drop, Ok, Err, decimal, Result, slice_index, slice_index_or}
+use Rattle.std.specs.Prelude.{◌≡◌, ℕ, ◌+◌, ◌<◌, ◌≤◌, ◌⊎◌, List, [], ◌∷◌, map, length, take, drop, decimal, slice_index, slice_index_or}
 use Rattle.site.specs.Site.{Place}
 use Rattle.site.specs.Maps.{listed}
 use Rattle.text.specs.Faults.{at}
@@ -56,10 +56,3 @@ pub record SiteRead (n : ℕ) (ls : List (List ℕ)) (v : SiteValues) (was table
   pub kept : Kept v was table
   pub after_it : after ≡ past_part ls
   pub next : m ≡ past_number n ls
-
--- the line that is to end a regular site's part
-abbrev pub RegularEnd : List (List ℕ) → ℕ → Result Unit Fault → List (List ℕ) → ℕ → Type 0
-RegularEnd [] n (Ok u) after m = (after ≡ []) × (m ≡ n)
-RegularEnd [] n (Err f) after m = ⊥
-RegularEnd (l ∷ ls) n (Ok u) after m = (l ≡ []) × (after ≡ ls) × (m ≡ n + 1)
-RegularEnd (l ∷ ls) n (Err f) after m = (0 < length l) × (f ≡ at Count n 1)

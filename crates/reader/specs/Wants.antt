@@ -1,5 +1,5 @@
 -- What the fields of a value line have to be, and what can be wrong with one.
-use Rattle.std.specs.Prelude.{◌≡◌, ℕ, ◌<◌, ◌≤◌, Bool, cond, ◌⊎◌, List, [], Some, None, codes, decimal, Option, MatchOption, ◌==◌, ◌≢◌}
+use Rattle.std.specs.Prelude.{◌≡◌, ℕ, ◌<◌, ◌≤◌, cond, ◌⊎◌, List, [], Some, None, codes, decimal, Option, Result, MatchOption, MatchResult, ◌==◌, ◌≢◌}
 use Rattle.std.specs.List.{AllByRecursion}
 use Rattle.site.specs.declared.Mark.{Mark}
 use Rattle.site.specs.declared.Mark.TheVariants.{Yes, No}
@@ -12,7 +12,7 @@ use Rattle.reader.specs.declared.act.Act.TheVariants.{Offer, Seal, Plan, Deletio
 use Rattle.reader.specs.declared.form.Want.{Want}
 use Rattle.reader.specs.declared.form.Want.TheVariants.{Number, Next, Keep, Letter, Nodes, Nothing, Anything}
 use Rattle.reader.specs.declared.form.Form.{Form}
-use Rattle.reader.specs.declared.form.Form.TheVariants.{Numbers, Node, Call, Unknown}
+use Rattle.reader.specs.declared.form.Form.TheVariants.{Numbers, Node, Call}
 
 -- after a call and its first number: a node list, a node number or nothing
 abbrev pub say_of : Act → Want
@@ -23,12 +23,16 @@ say_of Deletions = Nothing
 say_of Release = Nothing
 say_of Abandon = Nothing
 
+-- that of a call whose letter is known; else it is not judged
+abbrev pub rest_of : Option Act → Want
+rest_of None = Anything
+rest_of (Some act) = say_of act
+
 -- what the field under a name has to be, by the name's number: node, rack, keep are 0, 1, 2, and so are call, first, rest
 abbrev pub want_of : Form → ℕ → Want
 want_of Numbers name = Number 4294967295
 want_of (Node count) name = cond (name == 0) (Next count) (cond (name == 1) (Number 31) Keep)
-want_of (Call act) name = cond (name == 0) Letter (cond (name == 1) (Number 4294967295) (say_of act))
-want_of Unknown name = cond (name == 0) Letter (cond (name == 1) (Number 4294967295) Anything)
+want_of (Call act) name = cond (name == 0) Letter (cond (name == 1) (Number 4294967295) (rest_of act))
 
 abbrev pub mark_text : Mark → List ℕ
 mark_text Yes = codes "y"
@@ -46,9 +50,6 @@ NoNumber limit bs = (v : ℕ) → v ≤ limit → bs ≢ decimal v
 abbrev pub NotNext : ℕ → List ℕ → Type 0
 NotNext count bs = (v : ℕ) × (v ≤ 4294967295) × (bs ≡ decimal v) × ((v ≢ count) ⊎ (255 < v))
 
-abbrev pub unless_fits : Bool → Option FaultKind
-unless_fits b = cond b None (Some kind.Field)
-
 -- the field is not what is wanted, and this is its fault
 abbrev pub Misfit : Want → List ℕ → FaultKind → Type 0
 Misfit (Number limit) bs k = (k ≡ kind.Field) × NoNumber limit bs
@@ -63,6 +64,6 @@ Misfit Anything bs k = ⊥
 abbrev pub Fit : Want → List ℕ → Type 0
 Fit w bs = (k : FaultKind) → Misfit w bs k → ⊥
 
--- the one thing that is wrong with a field, or that nothing is
-abbrev pub Judged : Want → List ℕ → Option FaultKind → Type 0
-Judged w bs r = MatchOption r (Fit w bs) (λ k. Misfit w bs k × ((j : FaultKind) → Misfit w bs j → j ≡ k))
+-- nothing is wrong with a field, or this is the one thing that is
+abbrev pub Judged : Want → List ℕ → Result Unit FaultKind → Type 0
+Judged w bs r = MatchResult r (λ _. Fit w bs) (λ k. Misfit w bs k × ((j : FaultKind) → Misfit w bs j → j ≡ k))

@@ -1,6 +1,6 @@
 // The calls that a sheet can make, and their letters.
 ghost use Rattle.std.specs.Prelude.{◌≡◌};
-ghost use Rattle.reader.specs.Letters.{byte_act, letter, Lettered};
+ghost use Rattle.reader.specs.Letters.{letter, Lettered, only_byte};
 
 #[derive(Clone, Copy, PartialEq, Eq, Debug)]
 pub enum Act {
@@ -12,17 +12,12 @@ pub enum Act {
     Abandon,
 }
 
-// The call whose letter the byte is.
-fn act_of_byte(byte: u8) -> Option<Act>
-    ensures { result ≡ byte_act byte }
+/// The letter of a field that is one byte.
+pub(crate) fn only_char(field: &[u8]) -> Option<char>
+    ensures { result ≡ only_byte field.now }
 {
-    match byte as char {
-        'o' => Some(Act::Offer),
-        's' => Some(Act::Seal),
-        'p' => Some(Act::Plan),
-        'd' => Some(Act::Deletions),
-        'r' => Some(Act::Release),
-        'a' => Some(Act::Abandon),
+    match field {
+        [byte] => Some(char::from(*byte)),
         _ => None,
     }
 }
@@ -32,8 +27,13 @@ pub(crate) fn act_of(field: &[u8]) -> Option<Act>
     ensures value { result ≡ letter field.now }
     ensures exact { Lettered field.now result }
 {
-    if field.len() != 1 {
-        return None;
+    match only_char(field)? {
+        'o' => Some(Act::Offer),
+        's' => Some(Act::Seal),
+        'p' => Some(Act::Plan),
+        'd' => Some(Act::Deletions),
+        'r' => Some(Act::Release),
+        'a' => Some(Act::Abandon),
+        _ => None,
     }
-    act_of_byte(field[0])
 }

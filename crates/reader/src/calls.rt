@@ -1,19 +1,20 @@
 // The calls part of a sheet: a names line, and then a line for each call.
 ghost use Rattle.std.specs.Prelude.{◌≡◌, ℕ, List, take, Some, MatchResult};
 ghost use Rattle.text.specs.Faults.{Least};
-ghost use Rattle.text.specs.Pieces.{parted};
 ghost use Rattle.text.specs.Rows.{left_of};
 ghost use Rattle.reader.specs.Wants.{Fit, say_of};
-ghost use Rattle.reader.specs.Rows.{named};
-ghost use Rattle.reader.specs.Calls.{CallsFault, CallsRead, Further, call_of, call_act, form_of, RestText, CallFault, CallRead};
+ghost use Rattle.reader.specs.ValueRows.{field_of};
+ghost use Rattle.reader.specs.Calls.{CallsFault, CallsRead, Further, call_act, RestText, CallFault, CallRead};
 
 use crate::act::{Act, act_of};
-use crate::form::Form;
-use crate::names::{call_order, line_fault};
-use crate::row::{check_row, field_named, number_named};
+use crate::form::{Form, Want};
+use crate::names::{CALL_NAMES, line_fault, next_part};
+use crate::row::Row;
+use fixed::list::FixedList;
 use text::fault::{Fault, FaultKind};
 use text::lines::{Line, Lines};
-use text::nodes::{HIGHEST, KEPT, NodeList, node_list};
+use text::names::name_order;
+use text::nodes::{HIGHEST, NodeList, node_list};
 
 /// What a call's line asks for, besides its first number.
 #[derive(Clone, Copy)]
@@ -40,62 +41,35 @@ pub fn read_calls(lines: &mut Lines) -> Result<[usize; 3], Fault>
     ensures read { MatchResult result (λ is. CallsRead lines.old.number (left_of lines.old) is (left_of lines.new) lines.new.number) (Least (CallsFault lines.old.number (left_of lines.old))) }
     ensures further { Further (left_of lines.old) lines.old.number (left_of lines.new) lines.new.number }
 {
-    let number = lines.number();
-    let Some(names) = lines.next_line() else {
-        return Err(line_fault(FaultKind::Sheet, number));
-    };
-    let Some(order) = call_order(names.bytes) else {
-        return Err(line_fault(FaultKind::Names, number));
-    };
-    Ok(order)
+    let names = next_part(lines)?;
+    name_order::<3>(names.bytes, &CALL_NAMES).ok_or(line_fault(FaultKind::Names, names.number))
 }
 
-// The call that the line's letter names.
-fn call_named(line: Line, order: &[usize]) -> Option<Act>
-    ensures { result ≡ call_of (named order.now 0 (parted 44 (take 65536 line.entry.bytes.now))) }
-{
-    let Some(field) = field_named(line, order, 0) else {
-        return None;
-    };
-    act_of(field)
-}
-
-// The form of the line of a call, if its letter is known.
-fn form_of(act: Option<Act>) -> Form
-    ensures { result ≡ form_of act }
-{
-    match act {
-        Some(act) => Form::Call(act),
-        None => Form::Unknown,
+impl Row<'_> {
+    // The nodes under a name; none where it is no node list.
+    fn nodes(self, name: usize) -> NodeList
+        ensures { (f : List ℕ) → field_of self.entry name ≡ Some f → Fit Want.Nodes f → RestText (Asked.Offer result) f }
+    {
+        self.field(name).and_then(node_list).unwrap_or(NodeList {
+            nodes: FixedList::new(),
+            len: 0,
+        })
     }
-}
 
-// The nodes under `rest`; none where it is no node list.
-fn nodes_named(line: Line, order: &[usize]) -> NodeList
-    ensures { (f : List ℕ) → named order.now 2 (parted 44 (take 65536 line.entry.bytes.now)) ≡ Some f → Fit (say_of Act.Offer) f → RestText (Asked.Offer result) f }
-{
-    let none = NodeList {
-        nodes: [0; KEPT],
-        len: 0,
-    };
-    let Some(field) = field_named(line, order, 2) else {
-        return none;
-    };
-    node_list(field).unwrap_or(none)
-}
-
-// What the line of this call asks for.
-fn read_asked(line: Line, order: &[usize], act: Act) -> Asked
-    ensures act { call_act result ≡ act }
-    ensures rest { (f : List ℕ) → named order.now 2 (parted 44 (take 65536 line.entry.bytes.now)) ≡ Some f → Fit (say_of act) f → RestText result f }
-{
-    match act {
-        Act::Offer => Asked::Offer(nodes_named(line, order)),
-        Act::Seal => Asked::Seal(number_named(line, order, 2, HIGHEST) as u16),
-        Act::Plan => Asked::Plan,
-        Act::Deletions => Asked::Deletions,
-        Act::Release => Asked::Release,
-        Act::Abandon => Asked::Abandon,
+    // What the line of this call asks for.
+    fn asked(self, act: Act) -> Asked
+        ensures act { call_act result ≡ act }
+        ensures rest { (f : List ℕ) → field_of self.entry 2 ≡ Some f → Fit (say_of act) f → RestText result f }
+    {
+        match act {
+            Act::Offer => Asked::Offer(self.nodes(2)),
+            // The number is at most HIGHEST.
+            Act::Seal => Asked::Seal(self.number(2, HIGHEST) as u16),
+            Act::Plan => Asked::Plan,
+            Act::Deletions => Asked::Deletions,
+            Act::Release => Asked::Release,
+            Act::Abandon => Asked::Abandon,
+        }
     }
 }
 
@@ -104,12 +78,13 @@ fn read_asked(line: Line, order: &[usize], act: Act) -> Asked
 pub fn read_call(order: &[usize; 3], line: Line) -> Result<CallLine, Fault>
     ensures { MatchResult result (CallRead order.now line.entry.number (take 65536 line.entry.bytes.now)) (Least (CallFault order.now line.entry.number (take 65536 line.entry.bytes.now))) }
 {
-    let act = call_named(line, order);
-    check_row(line, form_of(act), order)?;
-    let first = number_named(line, order, 1, u32::MAX);
+    let row = Row { line, order };
+    let act = row.field(0).and_then(act_of);
+    row.check(Form::Call(act))?;
+    let first = row.number(1, u32::MAX);
     let act = act.unwrap_or(Act::Plan);
     Ok(CallLine {
-        asked: read_asked(line, order, act),
+        asked: row.asked(act),
         first,
     })
 }

@@ -1,18 +1,15 @@
 // What the fields of a value line have to be.
 ghost use Rattle.std.specs.Prelude.{◌≡◌};
-ghost use Rattle.reader.specs.Wants.{want_of, Judged, say_of, Marked, unless_fits};
+ghost use Rattle.reader.specs.Wants.{want_of, Judged, say_of, Marked};
 
-use crate::act::{Act, act_of};
-use site::Mark;
+use crate::act::{Act, act_of, only_char};
+use site::{Mark, NODES, RACKS};
 use text::fault::FaultKind;
 use text::nodes::{HIGHEST, node_list};
 use text::number::number;
 
 /// The highest number that a rack of a node line may have.
-pub const LAST_RACK: u32 = 31;
-
-/// The highest number that a node line may have.
-pub const LAST_NODE: u32 = 255;
+pub const LAST_RACK: u32 = RACKS - 1;
 
 /// What a field has to be.
 #[derive(Clone, Copy)]
@@ -40,23 +37,20 @@ pub enum Form {
     Numbers,
     /// A node line, after so many others.
     Node(u32),
-    /// The line of this call.
-    Call(Act),
-    /// The line of a call whose letter is not known.
-    Unknown,
+    /// The line of this call, if its letter is known.
+    Call(Option<Act>),
 }
 
-// What follows the call and its first number.
-fn rest_of(act: Act) -> Want
-    ensures { result ≡ say_of act }
-{
-    match act {
-        Act::Offer => Want::Nodes,
-        Act::Seal => Want::Number(HIGHEST),
-        Act::Plan => Want::Nothing,
-        Act::Deletions => Want::Nothing,
-        Act::Release => Want::Nothing,
-        Act::Abandon => Want::Nothing,
+impl Act {
+    // What follows the call and its first number.
+    fn rest(self) -> Want
+        ensures { result ≡ say_of self }
+    {
+        match self {
+            Act::Offer => Want::Nodes,
+            Act::Seal => Want::Number(HIGHEST),
+            Act::Plan | Act::Deletions | Act::Release | Act::Abandon => Want::Nothing,
+        }
     }
 }
 
@@ -65,38 +59,15 @@ impl Form {
     pub(crate) fn wants(self, name: usize) -> Want
         ensures { result ≡ want_of self name }
     {
-        match self {
-            Form::Numbers => Want::Number(u32::MAX),
-            Form::Node(count) => {
-                if name == 0 {
-                    return Want::Next(count);
-                }
-                if name == 1 {
-                    Want::Number(LAST_RACK)
-                } else {
-                    Want::Keep
-                }
-            }
-            Form::Call(act) => {
-                if name == 0 {
-                    return Want::Letter;
-                }
-                if name == 1 {
-                    Want::Number(u32::MAX)
-                } else {
-                    rest_of(act)
-                }
-            }
-            Form::Unknown => {
-                if name == 0 {
-                    return Want::Letter;
-                }
-                if name == 1 {
-                    Want::Number(u32::MAX)
-                } else {
-                    Want::Anything
-                }
-            }
+        match (self, name) {
+            (Form::Numbers, _) => Want::Number(u32::MAX),
+            (Form::Node(count), 0) => Want::Next(count),
+            (Form::Node(_), 1) => Want::Number(LAST_RACK),
+            (Form::Node(_), _) => Want::Keep,
+            (Form::Call(_), 0) => Want::Letter,
+            (Form::Call(_), 1) => Want::Number(u32::MAX),
+            (Form::Call(Some(act)), _) => act.rest(),
+            (Form::Call(None), _) => Want::Anything,
         }
     }
 }
@@ -105,52 +76,38 @@ impl Form {
 pub(crate) fn mark_of(field: &[u8]) -> Option<Mark>
     ensures { Marked field.now result }
 {
-    if field.len() != 1 {
-        return None;
-    }
-    match field[0] as char {
+    match only_char(field)? {
         'y' => Some(Mark::Yes),
         'n' => Some(Mark::No),
         _ => None,
     }
 }
 
-// What is wrong with the number of the next node.
-fn misnumbered(field: &[u8], count: u32) -> Option<FaultKind>
+// Judges the number of the next node.
+fn judge_next(field: &[u8], count: u32) -> Result<(), FaultKind>
     ensures { Judged (Want.Next count) field.now result }
 {
-    let Some(node) = number(field, u32::MAX) else {
-        return Some(FaultKind::Field);
-    };
-    if node != count {
-        return Some(FaultKind::Node);
+    let node = number(field, u32::MAX).ok_or(FaultKind::Field)?;
+    if node != count || node >= u32::from(NODES) {
+        return Err(FaultKind::Node);
     }
-    if node > LAST_NODE {
-        return Some(FaultKind::Node);
-    }
-    None
-}
-
-// A field's fault where it is not what is wanted.
-fn unless(fits: bool) -> Option<FaultKind>
-    ensures { result ≡ unless_fits fits }
-{
-    if fits { None } else { Some(FaultKind::Field) }
+    Ok(())
 }
 
 impl Want {
-    /// What is wrong with a field, if anything is.
-    pub(crate) fn misfit(self, field: &[u8]) -> Option<FaultKind>
+    /// Judges a field.
+    pub(crate) fn judge(self, field: &[u8]) -> Result<(), FaultKind>
         ensures { Judged self field.now result }
     {
-        match self {
-            Want::Number(limit) => unless(number(field, limit).is_some()),
-            Want::Next(count) => misnumbered(field, count),
-            Want::Keep => unless(mark_of(field).is_some()),
-            Want::Letter => unless(act_of(field).is_some()),
-            Want::Nodes => unless(node_list(field).is_some()),
-            Want::Nothing => unless(field.is_empty()),
-            Want::Anything => None,
-        }
+        let fits = match self {
+            Want::Number(limit) => number(field, limit).is_some(),
+            Want::Next(count) => return judge_next(field, count),
+            Want::Keep => mark_of(field).is_some(),
+            Want::Letter => act_of(field).is_some(),
+            Want::Nodes => node_list(field).is_some(),
+            Want::Nothing => field.is_empty(),
+            Want::Anything => true,
+        };
+        fits.then_some(()).ok_or(FaultKind::Field)
     }
 }

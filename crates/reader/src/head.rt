@@ -18,7 +18,8 @@ pub struct Head {
     pub site: SiteValues,
 }
 
-/// Reads the code and the site of a sheet, a listing's places into the table. The reader is then at the calls part.
+/// Reads the code and the site of a sheet, a listing's places into the table. The reader is then at the calls part; it is lent, since
+/// the checker did not cover it within a result beside the site.
 pub fn read_head<'a>(
     sheet: &'a [u8],
     lines: &mut Lines<'a>,

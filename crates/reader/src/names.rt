@@ -1,41 +1,24 @@
 // The names lines of a sheet, and the line that comes next.
-ghost use Rattle.std.specs.Prelude.{◌≡◌};
+ghost use Rattle.std.specs.Prelude.{◌≡◌, ◌<◌, [], length, MatchResult};
 ghost use Rattle.text.specs.Faults.{at};
 ghost use Rattle.text.specs.Rows.{left_of};
-ghost use Rattle.reader.specs.Names.{code_names, regular_names, node_names, call_names, OrderFound, OrEmpty};
+ghost use Rattle.reader.specs.Names.{OrEmpty, NextPart};
 
 use text::fault::{Fault, FaultKind};
 use text::lines::{Line, Lines};
-use text::names::name_order;
 use text::place::Place;
 
-/// The order of the code's names.
-pub(crate) fn code_order(line: &[u8]) -> Option<[usize; 4]>
-    ensures { OrderFound code_names line.now result }
-{
-    name_order::<4>(line, &[b"n", b"k", b"c", b"targets"])
-}
+/// The names of the code.
+pub(crate) const CODE_NAMES: [&[u8]; 4] = [b"n", b"k", b"c", b"targets"];
 
-/// The order of a regular site's names.
-pub(crate) fn regular_order(line: &[u8]) -> Option<[usize; 2]>
-    ensures { OrderFound regular_names line.now result }
-{
-    name_order::<2>(line, &[b"racks", b"each"])
-}
+/// The names of a regular site.
+pub(crate) const REGULAR_NAMES: [&[u8]; 2] = [b"racks", b"each"];
 
-/// The order of a node listing's names.
-pub(crate) fn node_order(line: &[u8]) -> Option<[usize; 3]>
-    ensures { OrderFound node_names line.now result }
-{
-    name_order::<3>(line, &[b"node", b"rack", b"keep"])
-}
+/// The names of a node listing.
+pub(crate) const NODE_NAMES: [&[u8]; 3] = [b"node", b"rack", b"keep"];
 
-/// The order of the calls' names.
-pub(crate) fn call_order(line: &[u8]) -> Option<[usize; 3]>
-    ensures { OrderFound call_names line.now result }
-{
-    name_order::<3>(line, &[b"call", b"first", b"rest"])
-}
+/// The names of the calls.
+pub(crate) const CALL_NAMES: [&[u8]; 3] = [b"call", b"first", b"rest"];
 
 /// A fault that is told at a line's first column.
 pub(crate) fn line_fault(kind: FaultKind, line: u32) -> Fault
@@ -47,13 +30,28 @@ pub(crate) fn line_fault(kind: FaultKind, line: u32) -> Fault
     }
 }
 
+/// The next line. A sheet that has none lacks a part.
+pub(crate) fn next_part<'a>(lines: &mut Lines<'a>) -> Result<Line<'a>, Fault>
+    ensures { NextPart (left_of lines.old) lines.old.number result (left_of lines.new) lines.new.number }
+{
+    let number = lines.number();
+    lines.next().ok_or(line_fault(FaultKind::Sheet, number))
+}
+
 /// The next line, or an empty one in its place where there is none.
 pub(crate) fn next_or_empty<'a>(lines: &mut Lines<'a>) -> Line<'a>
     ensures { OrEmpty (left_of lines.old) lines.old.number result (left_of lines.new) lines.new.number }
 {
     let number = lines.number();
-    let Some(line) = lines.next_line() else {
-        return Line { bytes: b"", number };
-    };
-    line
+    lines.next().unwrap_or(Line { bytes: b"", number })
+}
+
+/// The fault of a line that is to be empty, if it is not.
+pub(crate) fn end_part(line: Line) -> Result<(), Fault>
+    ensures { MatchResult result (λ _. line.entry.bytes.now ≡ []) (λ f. (0 < length line.entry.bytes.now) × (f ≡ at FaultKind.Count line.entry.number 1)) }
+{
+    if line.bytes.is_empty() {
+        return Ok(());
+    }
+    Err(line_fault(FaultKind::Count, line.number))
 }

@@ -46,8 +46,6 @@ pub fn open_sheet<'a>(
     ensures { Opened sheet.now table.old table.new lines.new result }
 {
     let head = read_head(sheet, lines, table)?;
-    match site_kind(head.site) {
-        Ok(kind) => Ok(Opening { head, kind }),
-        Err(refusal) => Err(SiteFault::Refused(refusal, SITE_LINE)),
-    }
+    let kind = site_kind(head.site).map_err(|refusal| SiteFault::Refused(refusal, SITE_LINE))?;
+    Ok(Opening { head, kind })
 }

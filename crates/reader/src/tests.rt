@@ -1,5 +1,5 @@
 // Faults of a sheet at their places, and what right sheets say.
-use crate::calls::{Asked, read_call, read_calls};
+use crate::calls::{Asked, CallLine, read_call, read_calls};
 use crate::head::read_head;
 use crate::sites::SiteValues;
 use site::{Mark, Rack};
@@ -12,7 +12,7 @@ fn told(sheet: &[u8]) -> Option<(u8, u32, u32)> {
     let mut table = [(Rack(0), Mark::No); 256];
     match read_head(sheet, &mut lines, &mut table) {
         Ok(_) => None,
-        Err(fault) => Some((fault.kind.number(), fault.place.line, fault.place.column)),
+        Err(fault) => Some((u8::from(fault.kind), fault.place.line, fault.place.column)),
     }
 }
 
@@ -111,7 +111,7 @@ fn told_call(order: [usize; 3], line: &[u8]) -> Option<(u8, u32)> {
         },
     ) {
         Ok(_) => None,
-        Err(fault) => Some((fault.kind.number(), fault.place.column)),
+        Err(fault) => Some((u8::from(fault.kind), fault.place.column)),
     }
 }
 
@@ -139,13 +139,16 @@ fn call_lines(rt: HostRuntime) -> Result<(), Fail> {
             number: 9,
         },
     ) {
-        Ok(call) => match call.asked {
-            Asked::Offer(list) => {
-                assert_eq!(rt; (call.first, list.len, list.nodes[2]), (101, 3, 65535));
-                Ok(())
+        Ok(
+            CallLine {
+                asked: Asked::Offer(list),
+                first,
             },
-            _ => Err(Fail::new("another call")),
+        ) => {
+            assert_eq!(rt; (first, list.len, list.nodes.get(2)), (101, 3, Some(65535)));
+            Ok(())
         },
+        Ok(_) => Err(Fail::new("another call")),
         Err(_) => Err(Fail::new("refused")),
     }
 }

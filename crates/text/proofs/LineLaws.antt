@@ -51,9 +51,5 @@ pub or-empty : (more : Option (Bor (List ℕ))) (none r : Bor (List ℕ)) → no
 or-empty None none r z e = ap (λ x. x.now) e ∙ z
 or-empty (Some bytes) none r z e = ap (λ x. x.now) e
 
-pub no_line : (bs : List ℕ) (n : ℕ) → length bs ≡ 0 → NextLine (lines_of bs) n None (lines_of bs) n
-no_line [] n z = (refl, refl)
-no_line (b ∷ bs) n z = absurd (omega arith)
-
 pub a-line : (bs after : List ℕ) (n : ℕ) (bytes : Bor (List ℕ)) → lines_of bs ≡ bytes.now ∷ lines_of after → NextLine (lines_of bs) n (Some (record { bytes = bytes; number = n })) (lines_of after) (n + 1)
 a-line bs after n bytes e = subst (λ ls. NextLine ls n (Some (record { bytes = bytes; number = n })) (lines_of after) (n + 1)) (sym e) (refl, refl, refl, refl)

@@ -1,13 +1,14 @@
 -- The bytes that are taken for a number are the decimal text of its value, and every such text is taken.
-use Rattle.std.proofs.Common.{◌≡◌, ℕ, zero, suc, ◌+◌, ◌-◌, ◌*◌, ◌^◌, ◌<◌, ◌≤◌, true, false, cond, not, ◌&&◌, eqb, ltb, leb, List, [], ◌∷◌, length, get_or, take, Some, None, decimal, Option, sym, refl, ap, ◌∙◌, subst, ⊎_elim, arith}
+use Rattle.std.proofs.Common.{◌≡◌, ℕ, zero, suc, ◌+◌, ◌-◌, ◌*◌, ◌^◌, ◌<◌, ◌≤◌, Bool, true, false, cond, not, ◌&&◌, eqb, ltb, leb, List, [], ◌∷◌, length, get_or, take, Some, None, decimal, Option, sym, refl, ap, ◌∙◌, subst, ⊎_elim, arith}
 use Rattle.std.specs.Str.Parse.{digits_value, digits_value_after, AllDigits}
 use Rattle.std.specs.Int.{IsInRange}
 use Rattle.std.specs.Char.{digit_value}
-use Rattle.std.proofs.lemmas.Fmt.{decimal_is_IsNumeral, decimal_nonempty, first_decimal, decimal-digits_value, decimal_digit, digits_decimal, digits_value-decimal}
+use Rattle.std.proofs.lemmas.Fmt.{decimal_is_IsNumeral, decimal_nonempty, first_decimal, decimal-digits_value, decimal_digit, digits_decimal, digits_value-decimal, decimal_injective}
 use Rattle.std.proofs.lemmas.Str.Parse.{digit_at, numerals_by_value, tells_digits, IsNumeralModel, tells_all_ascii_digits}
 use Rattle.std.proofs.str.Laws.{order}
 use Rattle.std.specs.Str.{all_ascii_digits}
-use Rattle.std.proofs.lemmas.Bool.{and_parts, leb-true, le-leb}
+use Rattle.std.specs.Bool.{then_some}
+use Rattle.std.proofs.lemmas.Bool.{and_parts, leb-true, le-leb, both_ways}
 use Rattle.std.proofs.lemmas.Bool.Decides.{nat_tests}
 use Rattle.text.specs.Numbers.{is_number, number_in, Numbered}
 
@@ -81,3 +82,18 @@ exact-is limit bs (Some v) small h =
     ap Some is ∙ sym (ap (λ b. cond b (Some (digits_value 10 bs)) None) t)
 exact-is limit bs None small h =
     elim (is_number limit bs) as (λ b. is_number limit bs ≡ b → None ≡ cond b (Some (digits_value 10 bs)) None) [ true ↦ λ t. (let n = number_is limit bs small t in absurd (h (digits_value 10 bs) n.0 n.1)) | false ↦ λ _. refl ] refl
+
+-- both promises of a text that is no number's
+pub none-told : (limit : ℕ) (bs : List ℕ) (r : Option ℕ) → r ≡ None → limit < 2 ^ 64 → Numbered limit bs None → (r ≡ number_in limit bs) × Numbered limit bs r
+none-told limit bs (Some v) e small h = let z : ◌≡◌ {A = ℕ} 0 1 = cc in absurd (omega arith)
+none-told limit bs None e small h = (exact-is limit bs None small h, h)
+
+-- and of one whose value is this, if the limit lets it be
+pub value-told : (limit : ℕ) (bs : List ℕ) (v : ℕ) (r : Option ℕ) → limit < 2 ^ 64 → bs ≡ decimal v → v < 2 ^ 64 → r ≡ then_some (leb v limit) v → (r ≡ number_in limit bs) × Numbered limit bs r
+value-told limit bs v r small e lt is = by (leb v limit) refl where
+  by : (b : Bool) → leb v limit ≡ b → (r ≡ number_in limit bs) × Numbered limit bs r
+  by true t =
+      let s : r ≡ Some v = is ∙ ap (λ b. then_some b v) t in
+      subst (λ o. (o ≡ number_in limit bs) × Numbered limit bs o) (sym s) (exact-is limit bs (Some v) small (leb-true v limit t, e), (leb-true v limit t, e))
+  by false t =
+      none-told limit bs r (is ∙ ap (λ b. then_some b v) t) small (λ u h f. (let same = decimal_injective u v (omega arith) lt (sym f ∙ e) in both_ways (leb v limit) t (le-leb v limit (omega (arith, same)))))

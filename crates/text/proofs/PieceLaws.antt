@@ -1,70 +1,57 @@
 -- What splitting gives: the first piece is the front of the text, and the others are the pieces of what follows its separator.
-use Rattle.std.proofs.Common.{◌≡◌, ℕ, ◌+◌, ◌<◌, ◌≤◌, Bool, true, false, cond, eqb, List, [], ◌∷◌, length, take, drop, Some, None, Option, sym, refl, ap, ◌∙◌, subst, arith, Bor}
-use Rattle.std.proofs.lemmas.Bool.Decides.{nat_tests}
-use Rattle.text.specs.Pieces.{pieces, piece, parted, onto, length_of, Shorter}
+use Rattle.std.proofs.Common.{◌≡◌, ℕ, suc, ◌+◌, ◌≤◌, true, false, cond, eqb, List, [], ◌∷◌, length, take, drop, Some, None, Option, sym, refl, ap, ◌∙◌, subst, arith, Bor, MatchOption}
+use Rattle.std.specs.List.{position_from}
+use Rattle.text.specs.Pieces.{pieces, parted, onto, Shorter}
 
-pub piece-stops : (sep b : ℕ) (bs : List ℕ) → b ≡ sep → length (piece sep (b ∷ bs)) ≡ 0
-piece-stops sep b bs h = grind (arith, nat_tests)
+-- whether the first separator is found from place k on: there the pieces part
+abbrev Parts : ℕ → ℕ → List ℕ → Option ℕ → Type 0
+Parts sep k bs r = MatchOption r (pieces sep bs ≡ bs ∷ []) (λ at. (j : ℕ) × (at ≡ k + j) × (pieces sep bs ≡ take j bs ∷ pieces sep (drop (j + 1) bs)))
 
-pub piece-goes : (sep b : ℕ) (bs : List ℕ) → (b ≡ sep → ⊥) → length (piece sep (b ∷ bs)) ≡ length (piece sep bs) + 1
-piece-goes sep b bs h = grind (arith, nat_tests)
+parts : (sep k : ℕ) (bs : List ℕ) → Parts sep k bs (position_from (λ b. eqb b sep) k bs)
+parts sep k [] = refl
+parts sep k (b ∷ bs) =
+    elim (eqb b sep) as (λ t. MatchOption (cond t (Some k) (position_from (λ b. eqb b sep) (k + 1) bs)) (cond t ([] ∷ pieces sep bs) (onto b (pieces sep bs)) ≡ (b ∷ bs) ∷ []) (λ at. (j : ℕ) × (at ≡ k + j) × (cond t ([] ∷ pieces sep bs) (onto b (pieces sep bs)) ≡ take j (b ∷ bs) ∷ pieces sep (drop (j + 1) (b ∷ bs))))) [
+      | true ↦ (0, omega arith, refl)
+      | false ↦ further (position_from (λ b. eqb b sep) (k + 1) bs) (parts sep (k + 1) bs)
+    ] where
+      further : (r : Option ℕ) → Parts sep (k + 1) bs r → MatchOption r (onto b (pieces sep bs) ≡ (b ∷ bs) ∷ []) (λ at. (j : ℕ) × (at ≡ k + j) × (onto b (pieces sep bs) ≡ take j (b ∷ bs) ∷ pieces sep (drop (j + 1) (b ∷ bs))))
+      further None e = ap (onto b) e
+      further (Some at) p =
+          let over : suc p.0 + 1 ≡ suc (p.0 + 1) = omega arith in
+          (suc p.0, omega (arith, p.1), ap (onto b) p.2 ∙ ap (λ n. (b ∷ take p.0 bs) ∷ pieces sep (drop n (b ∷ bs))) (sym over))
 
-pub piece-within : (sep : ℕ) (bs : List ℕ) → length (piece sep bs) ≤ length bs
-piece-within sep [] = omega arith
-piece-within sep (b ∷ bs) = let i = piece-within sep bs in grind (arith, nat_tests, i)
+pub parted-at : (sep : ℕ) (bs : List ℕ) (at : ℕ) → position_from (λ b. eqb b sep) 0 bs ≡ Some at → pieces sep bs ≡ take at bs ∷ pieces sep (drop (at + 1) bs)
+parted-at sep bs at e =
+    let p = subst (Parts sep 0 bs) e (parts sep 0 bs) in
+    let is : p.0 ≡ at = omega (arith, p.1) in
+    p.2 ∙ ap (λ n. take n bs ∷ pieces sep (drop (n + 1) bs)) is
 
-pub piece-front : (sep : ℕ) (bs : List ℕ) → take (length (piece sep bs)) bs ≡ piece sep bs
-piece-front sep [] = refl
-piece-front sep (b ∷ bs) = let i = piece-front sep bs in grind (arith, nat_tests, i)
-
-abbrev next : ℕ → List ℕ → List (List ℕ)
-next sep [] = []
-next sep (b ∷ bs) = pieces sep bs
-
-abbrev Splits : ℕ → ℕ → List ℕ → Bool → Type 0
-Splits sep b bs t = cond t ([] ∷ pieces sep bs) (onto b (pieces sep bs)) ≡ cond t [] (b ∷ piece sep bs) ∷ next sep (drop (length (cond t [] (b ∷ piece sep bs))) (b ∷ bs))
-
-pieces-split : (sep : ℕ) (bs : List ℕ) → pieces sep bs ≡ piece sep bs ∷ next sep (drop (length (piece sep bs)) bs)
-pieces-split sep [] = refl
-pieces-split sep (b ∷ bs) = elim (eqb b sep) as (Splits sep b bs) [ true ↦ refl | false ↦ ap (onto b) (pieces-split sep bs) ]
-
-module _ (sep : ℕ) (bs front back : List ℕ) (f : front ≡ take (length (piece sep bs)) bs) (g : back ≡ drop (length (piece sep bs)) bs) where
-  split : pieces sep bs ≡ front ∷ next sep back
-  split = pieces-split sep bs ∙ (λ i. sym (f ∙ piece-front sep bs) i ∷ next sep (sym g i))
-
-  pub last-piece : length back ≡ 0 → pieces sep bs ≡ front ∷ []
-  last-piece z = split ∙ ap (λ l. front ∷ l) (none back z) where
-    none : (l : List ℕ) → length l ≡ 0 → next sep l ≡ []
-    none [] z = refl
-    none (b ∷ l) z = absurd (omega arith)
-
-  pub one_piece : 0 < length back → pieces sep bs ≡ front ∷ pieces sep (drop 1 back)
-  one_piece z = split ∙ ap (λ l. front ∷ l) (some back z) where
-    some : (l : List ℕ) → 0 < length l → next sep l ≡ pieces sep (drop 1 l)
-    some [] z = absurd (omega arith)
-    some (b ∷ l) z = refl
+pub parted-nowhere : (sep : ℕ) (bs : List ℕ) → position_from (λ b. eqb b sep) 0 bs ≡ None → pieces sep bs ≡ bs ∷ []
+parted-nowhere sep bs e = subst (Parts sep 0 bs) e (parts sep 0 bs)
 
 -- there is a piece always
 pub pieces_are : (P : List (List ℕ) → Type 0) (sep : ℕ) (bs : List ℕ) → ((f : List ℕ) (fs : List (List ℕ)) → P (f ∷ fs)) → P (pieces sep bs)
-pieces_are P sep bs h = subst P (sym (pieces-split sep bs)) (h _ _)
+pieces_are P sep bs h = by (position_from (λ b. eqb b sep) 0 bs) (parts sep 0 bs) where
+  by : (r : Option ℕ) → Parts sep 0 bs r → P (pieces sep bs)
+  by None e = subst P (sym e) (h _ _)
+  by (Some at) p = subst P (sym p.2) (h _ _)
 
-pub parted-some : (sep : ℕ) (bs : List ℕ) → 0 < length bs → parted sep bs ≡ pieces sep bs
-parted-some sep [] h = absurd (omega arith)
-parted-some sep (b ∷ bs) h = refl
+-- there are no more of them than bytes and one
+pieces-few : (sep : ℕ) (bs : List ℕ) → length (pieces sep bs) ≤ length bs + 1
+pieces-few sep [] = omega arith
+pieces-few sep (b ∷ bs) =
+    elim (eqb b sep) as (λ t. length (cond t ([] ∷ pieces sep bs) (onto b (pieces sep bs))) ≤ length (b ∷ bs) + 1) [
+      | true ↦ omega (arith, pieces-few sep bs)
+      | false ↦ omega (arith, pieces-few sep bs, onto-few (pieces sep bs))
+    ] where
+      onto-few : (ps : List (List ℕ)) → length (onto b ps) ≤ length ps + 1
+      onto-few [] = omega arith
+      onto-few (p ∷ ps) = omega arith
+
+pub parted-few : (sep : ℕ) (bs : List ℕ) → length (parted sep bs) ≤ length bs + 1
+parted-few sep [] = omega arith
+parted-few sep (b ∷ bs) = pieces-few sep (b ∷ bs)
 
 pub front-within : (bs front : List ℕ) (more : Option (Bor (List ℕ))) → Shorter bs front more → length front ≤ length bs
 front-within bs front None s = omega arith
 front-within bs front (Some bytes) s = omega arith
-
--- how many more pieces there can be: it falls with each that is split off
-abbrev pub pieces_left : Option (Bor (List ℕ)) → ℕ
-pieces_left None = 0
-pieces_left (Some bytes) = length bytes.now + 1
-
-pub pieces-fall : (bs front : List ℕ) (more : Option (Bor (List ℕ))) → Shorter bs front more → pieces_left more < length bs + 1
-pieces-fall bs front None s = omega arith
-pieces-fall bs front (Some bytes) s = omega arith
-
-pub length-falls : (bs front : List ℕ) (more : Option (Bor (List ℕ))) → Shorter bs front more → length front + length_of more ≤ length bs
-length-falls bs front None s = omega arith
-length-falls bs front (Some bytes) s = omega arith

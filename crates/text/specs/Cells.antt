@@ -1,8 +1,8 @@
 -- The fields of a line with their columns, and the tokens that a lexer gives for them.
 use Rattle.std.specs.Prelude.{◌≡◌, ℕ, ◌+◌, List, [], ◌∷◌, length}
-use Rattle.text.specs.declared.token.Token.{Token}
-use Rattle.text.specs.declared.token.Token.TheVariants.{Field, End}
-use Rattle.text.specs.declared.token.Lexer.{Lexer}
+use Rattle.text.specs.declared.lexer.Token.{Token}
+use Rattle.text.specs.declared.lexer.Token.TheVariants.{Field, End}
+use Rattle.text.specs.declared.lexer.Lexer.{Lexer}
 use Rattle.text.specs.Pieces.{parted, rest, length_of}
 
 -- a field, and the column where it begins

@@ -3,6 +3,7 @@ pub mod Faults
 pub mod NodeLists
 pub mod Numbers
 pub mod Orders
+pub mod Parts
 pub mod Pieces
 pub mod Rows
 pub mod Spaced

@@ -1,5 +1,5 @@
 -- Node lists as a sheet writes them: numbers up to 65535 with single spaces between; an empty text is the empty list.
-use Rattle.std.specs.Prelude.{◌≡◌, ℕ, zero, suc, ◌≤◌, List, [], ◌∷◌, length, Some, None, Option, MatchOption, ◌≢◌}
+use Rattle.std.specs.Prelude.{◌≡◌, ℕ, ◌≤◌, List, [], ◌∷◌, length, take, Some, None, Option, MatchOption, ◌≢◌}
 use Rattle.std.specs.List.{AllByRecursion}
 use Rattle.text.specs.declared.nodes.NodeList.{NodeList}
 use Rattle.text.specs.Numbers.{number_in}
@@ -19,16 +19,10 @@ numbers_in limit (w ∷ ws) = headed (number_in limit w) (numbers_in limit ws)
 abbrev pub node_list_in : List ℕ → Option (List ℕ)
 node_list_in bs = numbers_in 65535 (parted 32 bs)
 
--- the first n of a list, with zeros where it has fewer
-abbrev pub padded : ℕ → List ℕ → List ℕ
-padded zero vs = []
-padded (suc n) [] = 0 ∷ padded n []
-padded (suc n) (v ∷ vs) = v ∷ padded n vs
-
 -- what is kept of a list: its first eight nodes, and how many it has
 abbrev pub kept : Option (List ℕ) → Option NodeList
 kept None = None
-kept (Some vs) = Some (record { nodes = padded 8 vs; len = length vs })
+kept (Some vs) = Some (record { nodes = take 8 vs; len = length vs })
 
 -- the list of nodes up to 65535 whose text the bytes are, or that there is none
 abbrev pub Listed : List ℕ → Option (List ℕ) → Type 0

@@ -13,11 +13,6 @@ abbrev pub pieces : ℕ → List ℕ → List (List ℕ)
 pieces sep [] = [] ∷ []
 pieces sep (b ∷ bs) = cond (b == sep) ([] ∷ pieces sep bs) (onto b (pieces sep bs))
 
--- the first of them
-abbrev pub piece : ℕ → List ℕ → List ℕ
-piece sep [] = []
-piece sep (b ∷ bs) = cond (b == sep) [] (b ∷ piece sep bs)
-
 -- an empty text has none
 abbrev pub parted : ℕ → List ℕ → List (List ℕ)
 parted sep [] = []

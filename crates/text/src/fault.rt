@@ -1,6 +1,5 @@
 // What a reader finds wrong with a sheet, and where.
 ghost use Rattle.std.specs.Prelude.{◌≡◌};
-ghost use Rattle.text.specs.Faults.{number_of};
 
 use crate::place::Place;
 
@@ -24,12 +23,14 @@ pub struct Fault {
     pub place: Place,
 }
 
-impl FaultKind {
-    /// The number that the fault is told by.
-    pub fn number(self) -> u8
-        ensures { result ≡ number_of self }
-    {
-        match self {
+/// The number that the fault is told by.
+impl From<FaultKind> for u8 {
+    ghost use Rattle.text.specs.Faults.{number_of};
+
+    ghost from_gives = { λ kind r. r ≡ number_of kind };
+
+    fn from(kind: FaultKind) -> u8 {
+        match kind {
             FaultKind::Names => 10,
             FaultKind::Field => 11,
             FaultKind::Count => 12,

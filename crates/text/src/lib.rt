@@ -9,10 +9,7 @@ pub mod names;
 pub mod nodes;
 pub mod number;
 pub mod place;
-pub mod reader;
 pub mod split;
 #[cfg(test)]
 mod tests;
-pub mod token;
 pub mod writer;
-pub mod writing;

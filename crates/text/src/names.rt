@@ -1,39 +1,15 @@
 // A names line: its fields are the wanted names in any order, each once.
-ghost use Rattle.std.specs.Prelude.{◌≡◌, length};
-ghost use Rattle.std.specs.Str.{bytes_eq};
+ghost use Rattle.std.specs.Prelude.{◌≡◌};
 ghost use Rattle.text.specs.Pieces.{parted};
-ghost use Rattle.text.specs.Orders.{texts, index_from, elem, order_of, Ordered};
+ghost use Rattle.text.specs.Orders.{texts, index_from, order_of, Ordered};
 
-use crate::split::{split_first, unless_empty};
-
-// Whether the bytes are this name.
-fn spells(bytes: &[u8], name: &[u8]) -> bool
-    ensures { result ≡ bytes_eq bytes.now name.now }
-{
-    bytes == name
-}
+use crate::split::Parts;
 
 // The first name that the field is.
 fn index_of(names: &[&[u8]], field: &[u8]) -> Option<usize>
     ensures { result ≡ index_from 0 field.now (texts names.now) }
 {
-    for (i, name) in names.iter().enumerate() {
-        if spells(field, name) {
-            return Some(i);
-        }
-    }
-    None
-}
-
-fn holds(taken: &[usize], index: usize) -> bool
-    ensures { result ≡ elem index taken.now }
-{
-    for t in taken {
-        if *t == index {
-            return true;
-        }
-    }
-    false
+    names.iter().position(|name| field == *name)
 }
 
 /// The index of each field's name, if the line has `N` fields and they are names, each once. Of `N` names, that is an
@@ -43,24 +19,14 @@ pub fn name_order<const N: usize>(line: &[u8], names: &[&[u8]]) -> Option<[usize
     ensures exact { Ordered N (texts names.now) (parted 44 line.now) result }
 {
     let mut order = [0; N];
-    let mut left = unless_empty(line);
+    let mut fields = Parts::new(line, b',');
+    // By place: a FixedList of any N would owe that N is small, and a public function asks for nothing.
     for i in 0..N {
-        let Some(bytes) = left else {
-            return None;
-        };
-        let (field, more) = split_first(bytes, b',');
-        let Some(index) = index_of(names, field) else {
-            return None;
-        };
-        let taken = &order[..];
-        if holds(&taken[0..i], index) {
+        let index = index_of(names, fields.next()?)?;
+        if order[..i].contains(&index) {
             return None;
         }
         order[i] = index;
-        left = more;
     }
-    if left.is_some() {
-        return None;
-    }
-    Some(order)
+    fields.next().is_none().then_some(order)
 }

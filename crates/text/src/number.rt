@@ -7,22 +7,13 @@ pub fn number(bytes: &[u8], limit: u32) -> Option<u32>
     ensures value { result ≡ number_in limit bytes.now }
     ensures exact { Numbered limit bytes.now result }
 {
-    if bytes.is_empty() {
-        return None;
-    }
-    if bytes[0] == b'0' && bytes.len() > 1 {
+    if *bytes.first()? == b'0' && bytes.len() > 1 {
         return None;
     }
     let mut value: u32 = 0;
     for b in bytes {
-        if *b < b'0' || *b > b'9' {
-            return None;
-        }
-        let next = value as u64 * 10 + (*b - b'0') as u64;
-        if next > limit as u64 {
-            return None;
-        }
-        value = next as u32;
+        let digit = char::from(*b).to_digit(10)?;
+        value = value.checked_mul(10)?.checked_add(digit)?;
     }
-    Some(value)
+    (value <= limit).then_some(value)
 }

@@ -1,10 +1,10 @@
 // Edges of the format, one test a topic.
 use crate::fault::FaultKind;
+use crate::lexer::{Lexer, Token};
 use crate::lines::{Line, Lines};
 use crate::names::name_order;
 use crate::nodes::node_list;
 use crate::number::number;
-use crate::token::{Lexer, Token};
 use crate::writer::Writer;
 
 // How many lines a sheet has, and the bytes of its last.
@@ -12,7 +12,7 @@ fn counted(sheet: &[u8]) -> (u32, usize) {
     let mut lines = Lines::new(sheet);
     let mut last = 0;
     for _ in 0..9 {
-        match lines.next_line() {
+        match lines.next() {
             Some(line) => last = line.bytes.len(),
             None => return (lines.number(), last),
         }
@@ -66,7 +66,7 @@ fn numbers_up_to_a_limit(rt: HostRuntime) {
 // How many nodes a list has, and its eighth.
 fn nodes(text: &[u8]) -> Option<(usize, u16)> {
     let list = node_list(text)?;
-    Some((list.len, list.nodes[7]))
+    Some((list.len, list.nodes.get(7).unwrap_or(0)))
 }
 
 #[test]
@@ -100,9 +100,11 @@ fn a_short_buffer_has_the_front(rt: HostRuntime) {
     let mut buffer = [b'x'; 12];
     let mut writer = Writer::new(&mut buffer);
     writer.put_bytes(b"ok,");
-    writer.put_number(u32::from(FaultKind::Sheet.number()));
-    writer.put(b',');
-    writer.put_numbers(&[0, 10, 205]);
+    writer.put_number(u32::from(u8::from(FaultKind::Sheet)));
+    writer.put_bytes(b",0 ");
+    writer.put_number(10);
+    writer.put(b' ');
+    writer.put_number(205);
     assert_eq!(rt; writer.len(), 12);
     assert!(rt; buffer == *b"ok,14,0 10 2");
 }

@@ -1,15 +1,20 @@
-// A writer of text into a lent buffer; what it writes is in the module `writing`.
-ghost use Rattle.std.specs.Prelude.{◌≡◌, ◌≤◌, length, take};
+// Writing bytes and numbers one after the other into a lent buffer. A buffer that is too short for its text has the
+// text's front.
+ghost use Rattle.std.specs.Prelude.{◌≡◌, ◌≤◌, [], ◌∷◌, length, take, decimal};
 
-/// A buffer that is written from its front. What has no room is left out.
+/// A buffer that is written from its front. What has no room is left out, so that no write fails: by `fmt::Write` each call
+/// would have a result to drop.
+// The buffer is lent by the caller (no heap), so what is written is counted beside it.
 #[derive(Drop)]
 pub struct Writer<'a> {
-    pub(crate) buffer: &'a mut [u8],
-    pub(crate) at: usize,
+    buffer: &'a mut [u8],
+    at: usize,
     ghost within: { at ≤ length buffer.now },
 }
 
 impl<'a> Writer<'a> {
+    ghost use Rattle.text.specs.Texts.{Wrote};
+
     /// A writer that has written nothing yet.
     pub fn new(buffer: &'a mut [u8]) -> Writer<'a>
         ensures at { result.at ≡ 0 }
@@ -24,5 +29,33 @@ impl<'a> Writer<'a> {
         ensures { result ≡ length (take self.now.at self.now.buffer.now) }
     {
         self.at
+    }
+
+    pub fn put(&mut self, b: u8)
+        ensures { Wrote self.old self.new (b ∷ []) }
+    {
+        let Writer { buffer, at } = self;
+        if *at < buffer.len() {
+            buffer[*at] = b;
+            *at += 1;
+        }
+    }
+
+    pub fn put_bytes(&mut self, bytes: &[u8])
+        ensures { Wrote self.old self.new bytes.now }
+    {
+        for b in bytes {
+            self.put(*b);
+        }
+    }
+
+    /// The number in decimal. By hand: what `Display` writes is told only where it answers `Ok`, and this is always written.
+    pub fn put_number(&mut self, n: u32)
+        ensures { Wrote self.old self.new (decimal n) }
+    {
+        if n >= 10 {
+            self.put_number(n / 10);
+        }
+        self.put(b'0' + (n % 10) as u8);
     }
 }

@@ -1,14 +1,13 @@
-use Rattle.std.proofs.Common.{true, false, sym, ◌∙◌, arith}
-use Rattle.std.proofs.lemmas.List.{at_drop_all}
-use Rattle.text.specs.Orders.{texts, index_from}
-use Rattle.text.proofs.OrderLaws.{one_name}
+use Rattle.std.proofs.Common.{sym, ◌∙◌, rules, tests}
+use Rattle.std.specs.Str.{bytes_eq}
+use Rattle.std.proofs.lemmas.Iterator.{YieldsList-from_slice}
+use Rattle.std.proofs.lemmas.Iterator.Search.{position_from_yields_List}
+use Rattle.std.proofs.lemmas.Iterator.Adapters.{position_from-zero}
+use Rattle.text.proofs.OrderLaws.{index-position}
 use Rattle.text.proofs.names.index_of.Goals as goal
 
-pub returns-then-spells : goal.returns-then-spells
-returns-then-spells c = sym (one_name c.args.field.now c.args.names.now c.loop-i.i c.loop-i.i _ true (omega arith) c.if-spells.ensures) ∙ c.loop-i.invariant
-
-pub loop-i-preserved : goal.loop-i-preserved
-loop-i-preserved c = sym (one_name c.args.field.now c.args.names.now c.loop-i.i c.loop-i.i _ false (omega arith) c.if-spells.ensures) ∙ c.loop-i.invariant
-
 pub returns : goal.returns
-returns c = sym (at_drop_all (λ rs. index_from c.loop-i.i c.args.field.now (texts rs)) c.args.names.now c.loop-i.i (omega arith)) ∙ c.loop-i.invariant
+returns c =
+    position_from_yields_List (λ n. bytes_eq c.args.field.now n.now) _ _ c.position.result c.position.ensures.ran (YieldsList-from_slice c.args.names.now cc) (λ x b q k. search (rules, tests))
+    ∙ position_from-zero (λ n. bytes_eq c.args.field.now n.now) c.args.names.now
+    ∙ sym (index-position 0 c.args.field.now c.args.names.now)

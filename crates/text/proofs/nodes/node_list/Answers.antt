@@ -1,45 +1,33 @@
-use Rattle.std.proofs.Common.{◌<◌, [], ◌∷◌, ◌++◌, length, sym, ap, ◌∙◌, arith}
+use Rattle.std.proofs.Common.{[], ◌∷◌, ◌++◌, length, refl, sym, ap, ◌∙◌, arith}
 use Rattle.std.proofs.lemmas.List.{length_push}
-use Rattle.text.specs.NodeLists.{kept, numbers_in}
-use Rattle.text.specs.Pieces.{rest, length_of}
+use Rattle.text.specs.NodeLists.{numbers_in}
+use Rattle.text.specs.Parts.{parts_left}
 use Rattle.text.proofs.NodeListExact.{listed}
-use Rattle.text.proofs.NodeListLaws.{after, turn-bad, turn-good, kept_whole}
-use Rattle.text.proofs.NumberLaws.{not-empty}
-use Rattle.text.proofs.PieceLaws.{length-falls}
+use Rattle.text.proofs.NodeListLaws.{after_nothing, turn-good, kept-more}
+use Rattle.text.proofs.PieceLaws.{parted-few}
 use Rattle.text.proofs.nodes.node_list.Goals as goal
 
-pub returns-in_default-number : goal.returns-in_default-number
-returns-in_default-number c =
-    let i = c.loop-left.invariant in
-    let is = ap (rest 32) c.in-Some.is ∙ c.split_first.ensures.pieces in
-    record {
-      value = ap kept (sym (turn-bad i.0 _ c.split_first.result.0.now _ is c.in_default-number.ensures.value) ∙ i.4);
-      exact = listed c.args.bytes.now;
-    }
+pub loop-word-init : goal.loop-word-init
+loop-word-init c =
+    let words = ap parts_left c.into_iter-word-iterator.ensures.into_iter_gives ∙ c.new-word-items.ensures in
+    ([], c.new-nodes.ensures, refl, omega (arith, ap length words, parted-few 32 c.args.bytes.now), after_nothing _ ∙ ap (numbers_in 65535) words)
 
-pub loop-left-preserved : goal.loop-left-preserved
-loop-left-preserved c =
-    let i = c.loop-left.invariant in
-    let vs = i.0 in
-    let node = c.in-Some-number.node in
-    let word = c.split_first.result.0.now in
-    let more = c.split_first.result.1 in
-    let is = ap (rest 32) c.in-Some.is ∙ c.split_first.ensures.pieces in
-    let number = c.in-Some-number.ensures.exact in
-    let some : 0 < length word = not-empty word node (omega (arith, number.0)) number.1 in
-    let fewer = length-falls c.in-Some.text.now word more c.split_first.ensures.shorter in
-    let longer = length_push vs node in (
-      vs ++ node ∷ [],
-      c.keep.ensures.nodes vs i.1 i.2,
-      omega (arith, c.keep.ensures.len, i.2, longer),
-      omega (arith, i.3, ap length_of c.in-Some.is, longer, fewer, some),
-      sym (turn-good vs _ word _ is node c.in-Some-number.ensures.value) ∙ i.4,
+pub returns-in_err-node-clause-exact : goal.returns-in_err-node-clause-exact
+returns-in_err-node-clause-exact c = listed c.args.bytes.now
+
+pub overflow_add-len : goal.overflow_add-len
+overflow_add-len c = omega (arith, c.loop-word.invariant.2, c.loop-word.invariant.3, ap length c.in-Some.ensures.steps)
+
+pub loop-word-preserved : goal.loop-word-preserved
+loop-word-preserved c =
+    let i = c.loop-word.invariant in
+    let node = c.in_ok-node.node in (
+      i.0 ++ node ∷ [],
+      kept-more i.0 _ _ node c.push.result i.1 c.push.ensures,
+      omega (arith, i.2, length_push i.0 node),
+      omega (arith, i.3, length_push i.0 node, ap length c.in-Some.ensures.steps),
+      sym (turn-good i.0 _ c.in-Some.word.now _ c.in-Some.ensures.steps node c.in_ok-node.ensures.value) ∙ i.4,
     )
 
-pub returns : goal.returns
-returns c =
-    let i = c.loop-left.invariant in
-    record {
-      value = kept_whole c.loop-left.list i.0 _ i.1 i.2 (sym (ap (λ m. after i.0 (numbers_in 65535 (rest 32 m))) c.in_default.is) ∙ i.4);
-      exact = listed c.args.bytes.now;
-    }
+pub returns-clause-exact : goal.returns-clause-exact
+returns-clause-exact c = listed c.args.bytes.now

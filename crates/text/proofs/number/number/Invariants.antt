@@ -1,6 +1,6 @@
-use Rattle.std.proofs.Common.{◌≡◌, ◌≤◌, take}
+use Rattle.std.proofs.Common.{◌≡◌, ◌^◌, ◌<◌, take}
 use Rattle.std.specs.Str.Parse.{digits_value, AllDigits}
 use Rattle.text.proofs.number.number.Given as goal
 
 abbrev pub invariant-loop-b : goal.invariant-loop-b
-invariant-loop-b l = AllDigits 10 (take l.b-index l.bytes) × (l.value ≡ digits_value 10 (take l.b-index l.bytes)) × (l.value ≤ l.limit)
+invariant-loop-b l = AllDigits 10 (take l.b-index l.bytes) × (l.value ≡ digits_value 10 (take l.b-index l.bytes)) × (l.value < 2 ^ 32)

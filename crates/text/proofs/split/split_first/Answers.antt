@@ -1,28 +1,19 @@
-use Rattle.std.proofs.Common.{◌<◌, ◌∷◌, length, take, drop, sym, ap, ◌∙◌, arith, length-drop, true-eqb, false-eqb}
+use Rattle.std.proofs.Common.{◌+◌, eqb, ◌∷◌, take, sym, ap, ◌∙◌, rules, tests}
+use Rattle.std.proofs.lemmas.Iterator.{YieldsList-from_slice}
+use Rattle.std.proofs.lemmas.Iterator.Search.{position_from_yields_List}
+use Rattle.std.proofs.lemmas.Iterator.Adapters.{position_from-zero}
 use Rattle.std.proofs.lemmas.List.{take_rest}
 use Rattle.text.specs.Pieces.{pieces}
-use Rattle.text.proofs.PieceLaws.{last-piece, one_piece, piece-within}
+use Rattle.text.proofs.PieceLaws.{parted-at, parted-nowhere}
 use Rattle.text.proofs.split.split_first.Goals as goal
 
-pub split_at-requires : goal.split_at-requires
-split_at-requires c = omega (arith, piece-within c.args.sep c.args.bytes.now)
+pub returns-in-Some-clause-pieces : goal.returns-in-Some-clause-pieces
+returns-in-Some-clause-pieces c =
+    let found = position_from_yields_List (λ b. eqb b c.args.sep) _ _ c.position.result c.position.ensures.ran (YieldsList-from_slice c.args.bytes.now cc) (λ x b q k. search (rules, tests)) ∙ position_from-zero (λ b. eqb b c.args.sep) c.args.bytes.now in
+    parted-at c.args.sep c.args.bytes.now c.in-Some.at (sym found ∙ c.in-Some.is)
+    ∙ ap (λ l. take c.in-Some.at c.args.bytes.now ∷ pieces c.args.sep l) (sym (take_rest c.args.bytes.now (c.in-Some.at + 1)))
 
-pub returns-then-is_empty : goal.returns-then-is_empty
-returns-then-is_empty c =
-    let n = c.piece_len-n.ensures in
-    record {
-      pieces = last-piece c.args.sep c.args.bytes.now _ _ (c.split_at.ensures.front ∙ ap (λ k. take k c.args.bytes.now) n) (c.split_at.ensures.back ∙ ap (λ k. drop k c.args.bytes.now) n) (true-eqb _ 0 c.if-is_empty.ensures);
-      shorter = omega (arith, true-eqb _ 0 c.if-is_empty.ensures, c.split_at.ensures.front_len, c.split_at.ensures.back_len);
-    }
-
-pub returns : goal.returns
-returns c =
-    let n = c.piece_len-n.ensures in
-    let rest = take_rest c.split_at.result.1.now 1 in
-    let some : 0 < length c.split_at.result.1.now = omega (arith, false-eqb _ 0 c.if-is_empty.ensures) in
-    record {
-      pieces =
-          one_piece c.args.sep c.args.bytes.now _ _ (c.split_at.ensures.front ∙ ap (λ k. take k c.args.bytes.now) n) (c.split_at.ensures.back ∙ ap (λ k. drop k c.args.bytes.now) n) some
-          ∙ ap (λ l. c.split_at.result.0.now ∷ pieces c.args.sep l) (sym rest);
-      shorter = omega (arith, ap length rest, length-drop 1 c.split_at.result.1.now, c.split_at.ensures.front_len, c.split_at.ensures.back_len);
-    }
+pub returns-in-None-clause-pieces : goal.returns-in-None-clause-pieces
+returns-in-None-clause-pieces c =
+    let found = position_from_yields_List (λ b. eqb b c.args.sep) _ _ c.position.result c.position.ensures.ran (YieldsList-from_slice c.args.bytes.now cc) (λ x b q k. search (rules, tests)) ∙ position_from-zero (λ b. eqb b c.args.sep) c.args.bytes.now in
+    parted-nowhere c.args.sep c.args.bytes.now (sym found ∙ c.in-None.is)

@@ -3,8 +3,8 @@ use Rattle.std.proofs.lemmas.List.{take_more_set, take_all, drop-set-lt, drop-dr
 use Rattle.text.proofs.TextLaws.{no_room}
 use Rattle.text.proofs.writer.Writer.put.Goals as goal
 
-pub returns-then-at-self : goal.returns-then-at-self
-returns-then-at-self c =
+pub returns-then-at-buffer : goal.returns-then-at-buffer
+returns-then-at-buffer c =
     let buffer = c.args.self.now.buffer.now in
     let at = c.args.self.now.at in
     let b = c.args.b in
@@ -16,5 +16,5 @@ returns-then-at-self c =
       lent = refl;
     }
 
-pub returns-else-at-self : goal.returns-else-at-self
-returns-else-at-self c = no_room c.args.self.now c.args.b (omega arith)
+pub returns-else-at-buffer : goal.returns-else-at-buffer
+returns-else-at-buffer c = let full = no_room c.args.self.now c.args.b (omega arith) in record { front = full.front; back = full.back; same = full.same; lent = full.lent }
