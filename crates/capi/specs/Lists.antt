@@ -2,6 +2,8 @@
 use Rattle.std.specs.Prelude.{◌≡◌, ℕ, ◌*◌, ◌<◌, ◌≤◌, List, map, length, take, drop, Ok, Err, Result, slice_index}
 use Rattle.std.specs.List.{range_with_len}
 use Rattle.choices.specs.Choice.{Copies}
+use Rattle.blocks.specs.Lists.{lists_of}
+use Rattle.blocks.specs.declared.block.Block.{Block}
 use Rattle.capi.specs.declared.refused.Refused.{Refused}
 use Rattle.capi.specs.declared.refused.Refused.TheVariants.{OutsideLimits, ListLength, OutsideRegular, NoChoice, NotFull, Arrays, NoPlan}
 
@@ -22,13 +24,13 @@ Sized n = (2 ≤ n) × (n ≤ 8)
 abbrev pub AllSized : List ℕ → Type 0
 AllSized ns = (i : ℕ) → i < length ns → Sized (slice_index ns i)
 
--- the lists that were read, or the first that is wrong with the arrays
-abbrev pub Read : List ℕ → List ℕ → List Copies → Result Unit Refused → Type 0
-Read vs ns bs (Ok u) = Shaped vs ns × AllSized ns × (bs ≡ lists_in vs ns)
-Read vs ns bs (Err Arrays) = Shaped vs ns → ⊥
-Read vs ns bs (Err ListLength) = Shaped vs ns × (AllSized ns → ⊥)
-Read vs ns bs (Err OutsideLimits) = ⊥
-Read vs ns bs (Err OutsideRegular) = ⊥
-Read vs ns bs (Err (NoChoice w)) = ⊥
-Read vs ns bs (Err NotFull) = ⊥
-Read vs ns bs (Err NoPlan) = ⊥
+-- the blocks of the lists, or the first that is wrong with the arrays
+abbrev pub Read : List ℕ → List ℕ → Result (List Block) Refused → Type 0
+Read vs ns (Ok bs) = Shaped vs ns × AllSized ns × (lists_of bs ≡ lists_in vs ns)
+Read vs ns (Err Arrays) = Shaped vs ns → ⊥
+Read vs ns (Err ListLength) = Shaped vs ns × (AllSized ns → ⊥)
+Read vs ns (Err OutsideLimits) = ⊥
+Read vs ns (Err OutsideRegular) = ⊥
+Read vs ns (Err (NoChoice w)) = ⊥
+Read vs ns (Err NotFull) = ⊥
+Read vs ns (Err NoPlan) = ⊥

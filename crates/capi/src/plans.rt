@@ -4,15 +4,14 @@ ghost use Rattle.text.specs.Texts.{whole};
 ghost use Rattle.blocks.specs.Blocks.{numbers};
 ghost use Rattle.capi.specs.Plans.{Plans, PlanTold};
 
-use crate::lists::read_blocks;
+use crate::lists::Lists;
 use crate::refused::Refused;
 use crate::sites::{VaultSite, site_map};
 use blocks::code::Code;
-use blocks::lists::{Blocks, Nodes};
+use blocks::lists::Nodes;
+use fixed::slices::put;
 use placement::plan::plan;
 use site::Node;
-use site::regular::RegularMap;
-use site::target::TargetMap;
 
 /// Of n blocks k are data, and at most c lie in a rack.
 #[repr(C)]
@@ -27,19 +26,15 @@ pub struct VaultCode {
 pub(crate) fn plan_lists(
     site: &VaultSite,
     code: &VaultCode,
-    nodes: &[u16],
-    lens: &[u8],
+    lists: &Lists<'_>,
     start: u16,
 ) -> Result<Nodes, Refused>
-    ensures { Plans site.now code.now nodes.now lens.now start result }
+    ensures { Plans site.now code.now lists.now.nodes.now lists.now.lens.now start result }
 {
     let map = site_map(site)?;
-    let Some(code) = Code::new(code.n, code.k, code.c) else {
-        return Err(Refused::OutsideLimits);
-    };
-    let mut blocks = Blocks::new();
-    read_blocks(&mut blocks, nodes, lens)?;
-    if lens.len() != code.k() as usize {
+    let code = Code::new(code.n, code.k, code.c).ok_or(Refused::OutsideLimits)?;
+    let blocks = lists.blocks()?;
+    if lists.lens.len() != code.k() as usize {
         return Err(Refused::NotFull);
     }
     let planned = plan(&map, &code, &blocks, Node(start));
@@ -53,14 +48,14 @@ pub(crate) fn plan_lists(
 fn write_nodes(out: &mut [u16], nodes: &[Node])
     ensures { out.new ≡ whole out.old (numbers nodes.now) }
 {
-    let count = nodes.len().min(out.len());
-    for i in 0..count {
-        out[i] = nodes[i].0;
+    for (i, node) in nodes.iter().enumerate() {
+        put(out, i, node.0);
     }
 }
 
 /// `plan_lists` for C: 0, or the refusal's number. The nodes are written from the front of `out`, as far as it has room, and
 /// their number to `len`; where there is a refusal, both stay.
+// A number goes out, since C knows no layout of a `Result`.
 #[unsafe(no_mangle)]
 pub extern "C" fn vault_plan(
     site: &VaultSite,
@@ -73,12 +68,12 @@ pub extern "C" fn vault_plan(
 ) -> u32
     ensures { PlanTold site.now code.now nodes.now lens.now start out.old out.new len.old len.new result }
 {
-    match plan_lists(site, code, nodes, lens, start) {
+    match plan_lists(site, code, &Lists { nodes, lens }, start) {
         Ok(planned) => {
             write_nodes(out, planned.as_slice());
             *len = planned.len();
             0
         }
-        Err(refused) => refused.number(),
+        Err(refused) => u32::from(refused),
     }
 }

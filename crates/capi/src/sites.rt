@@ -23,8 +23,6 @@ pub(crate) fn site_map(site: &VaultSite) -> Result<TargetMap<RegularMap>, Refuse
         (λ m. Fit site.now.racks site.now.each × (target m.word (regular m.map.racks m.map.each) ≡ site_of site.now))
         (λ e. (e ≡ OutsideRegular) × (Fit site.now.racks site.now.each → ⊥)) }
 {
-    match RegularMap::new(site.racks, site.each) {
-        Ok(map) => Ok(TargetMap::new(map, site.targets)),
-        Err(_) => Err(Refused::OutsideRegular),
-    }
+    let map = RegularMap::new(site.racks, site.each).map_err(|_| Refused::OutsideRegular)?;
+    Ok(TargetMap::new(map, site.targets))
 }

@@ -1,10 +1,12 @@
 // A sheet's answers on standard output: the heading, and then each line as the run gives it.
 #![tactic(auto)]
 
+use fixed::slices::front;
 use reader::code::CodeValues;
 use reader::listing::TABLE;
-use sheet::faults::{RunFault, write_run_fault};
-use sheet::replies::write_heading;
+use sheet::faults::FaultLine;
+use sheet::put::{Put, write};
+use sheet::replies::Heading;
 use sheet::run::Run;
 use sheet::running::LINE;
 use sheet::start::{open_run, sheet_map};
@@ -13,21 +15,14 @@ use std::io;
 use std::io::Write;
 use text::lines::Lines;
 
-// As much of the buffer as the line has.
-fn put(rt: &HostRuntime, buffer: &[u8], len: usize) -> io::Result<()> {
-    if len > buffer.len() {
-        return Ok(());
-    }
-    rt.stdout().write_all(&buffer[0..len])
+fn print_line(rt: &HostRuntime, line: &impl Put, buffer: &mut [u8]) -> io::Result<()> {
+    let len = write(line, buffer);
+    rt.stdout().write_all(front(buffer, len))
 }
 
-fn put_fault(rt: &HostRuntime, fault: RunFault, buffer: &mut [u8]) -> io::Result<()> {
-    let len = write_run_fault(buffer, fault);
-    put(rt, buffer, len)
-}
-
-// The answers to the calls, at a store over the map.
-fn put_answers<M: SiteMap + Drop>(
+// The answers to the calls, at a store over the map. `capi` has the same three steps into a buffer, which cannot fail and is told
+// byte for byte; one driver over both would be a trait with a law that printing has not.
+fn print_calls<M: SiteMap + Drop>(
     rt: &HostRuntime,
     map: M,
     lines: Lines<'_>,
@@ -36,10 +31,11 @@ fn put_answers<M: SiteMap + Drop>(
 ) -> io::Result<()> {
     let mut run = Run::new(map, lines);
     if let Err(fault) = run.begin(code) {
-        return put_fault(rt, fault, buffer);
+        return print_line(rt, &FaultLine::from(fault), buffer);
     }
+    // The run writes into the lent buffer, so a line is its length and no item of an iterator.
     while let Ok(Some(len)) = run.next_line(buffer) {
-        put(rt, buffer, len)?;
+        rt.stdout().write_all(front(buffer, len))?;
     }
     Ok(())
 }
@@ -47,18 +43,14 @@ fn put_answers<M: SiteMap + Drop>(
 /// Prints the heading and the sheet's answers, or its one fault line.
 pub fn print_answers(rt: &HostRuntime, sheet: &[u8]) -> io::Result<()> {
     let mut buffer = [0u8; LINE];
-    let heading = write_heading(&mut buffer);
-    put(rt, &buffer, heading)?;
-    let mut table = [(Rack(0), Mark::No); TABLE];
+    print_line(rt, &Heading, &mut buffer)?;
+    let mut table = [(Rack::default(), Mark::default()); TABLE];
     let mut lines = Lines::new(b"");
     match open_run(sheet, &mut lines, &mut table) {
-        Ok(opening) => put_answers(
-            rt,
-            sheet_map(opening, &table),
-            lines,
-            opening.head.code,
-            &mut buffer,
-        ),
-        Err(fault) => put_fault(rt, fault, &mut buffer),
+        Ok(opening) => {
+            let map = sheet_map(opening, &table);
+            print_calls(rt, &map, lines, opening.head.code, &mut buffer)
+        }
+        Err(fault) => print_line(rt, &FaultLine::from(fault), &mut buffer),
     }
 }

@@ -23,7 +23,7 @@ use Rattle.reader.specs.Names.{code_names, regular_names, node_names, call_names
 use Rattle.reader.specs.Codes.{CodeFault, CodeText, code_text}
 use Rattle.reader.specs.Listings.{NodesFault, node_text, NodesText}
 use Rattle.reader.specs.Sites.{RegularFault, regular_text, SitePartFault, SiteText}
-use Rattle.reader.specs.Calls.{call_of, form_of, call_form, call_act, RestText, call_text}
+use Rattle.reader.specs.Calls.{call_of, call_form, call_act, RestText, call_text}
 use Rattle.reader.specs.Codes.{Word, CodeWords}
 use Rattle.reader.specs.Listings.{Places}
 use Rattle.laws.specs.Backs.{SiteWords, HeadReadsBack, OneCode, OneSite, AskedWords, CallReadsBack}
@@ -193,7 +193,7 @@ rest-fits Deletions rest w e k m = m.1 e
 rest-fits Release rest w e k m = m.1 e
 rest-fits Abandon rest w e k m = m.1 e
 
-call_fits : (call : CallLine) (rest : List ℕ) → Word call.first → AskedWords call.asked → RestText call.asked rest → (j : ℕ) → j < 3 → Fit (want_of (Call (call_act call.asked)) j) (call_text call rest j)
+call_fits : (call : CallLine) (rest : List ℕ) → Word call.first → AskedWords call.asked → RestText call.asked rest → (j : ℕ) → j < 3 → Fit (want_of (Call (Some (call_act call.asked))) j) (call_text call rest j)
 call_fits call rest w ws text zero h = λ k m. m.1 (call_act call.asked) refl
 call_fits call rest w ws text (suc zero) h = number_fits 4294967295 call.first w
 call_fits call rest w ws text (suc (suc zero)) h = rest-fits call.asked rest ws text
@@ -211,6 +211,6 @@ named-text t (i ∷ is) j m =
 pub call_back : CallReadsBack
 call_back is n line call (names, o) w ws (rest, said, text) =
     let a = call_act call.asked in
-    let known : call_form is line ≡ Call a = ap form_of (ap call_of (ap (named is 0) text ∙ named-text (call_text call rest) is 0 (picks-all 3 is o.all o.once o.names 0 (omega arith))) ∙ letter-back a) in
+    let known : call_form is line ≡ Call (Some a) = ap Call (ap call_of (ap (named is 0) text ∙ named-text (call_text call rest) is 0 (picks-all 3 is o.all o.once o.names 0 (omega arith))) ∙ letter-back a) in
     subst (λ form. Clean (RowFault form is n line)) (sym known)
-    (text-clean (Call a) (call_text call rest) is n line text (λ j m. call_fits call rest w ws said j (order-names call_names names is o j m)))
+    (text-clean (Call (Some a)) (call_text call rest) is n line text (λ j m. call_fits call rest w ws said j (order-names call_names names is o j m)))

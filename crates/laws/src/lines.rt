@@ -9,78 +9,56 @@ use sheet::run::Run;
 use site::SiteMap;
 
 /// The set that a refused offer names is a function of the blocks.
-pub fn crowd_least() -> u8
+pub fn crowd_least()
     ensures { CrowdLeast }
-{
-    0
-}
+{}
 
 /// A store's answer is a function of the calls before it.
-pub fn answers_one() -> u8
+pub fn answers_one()
     ensures { AnswersOne }
-{
-    0
-}
+{}
 
 /// The line of a plan names its nodes.
-pub fn plan_named() -> u8
+pub fn plan_named()
     ensures { PlanNamed }
-{
-    0
-}
+{}
 
 /// The ledger that a sheet's call lines lead to is that of their calls and of nothing else.
-pub fn lines_noted() -> u8
+pub fn lines_noted()
     ensures { LinesNoted }
-{
-    0
-}
+{}
 
 /// Each line that a run gives is the next of its sheet's.
-pub fn lines_grow() -> u8
+pub fn lines_grow()
     ensures { LinesGrow }
-{
-    0
-}
+{}
 
 /// A sheet that is not opened has the one line of its fault.
-pub fn unopened_told() -> u8
+pub fn unopened_told()
     ensures { UnopenedTold }
-{
-    0
-}
+{}
 
 /// An opened sheet's map means what the sheet says.
-pub fn opened_says() -> u8
+pub fn opened_says()
     ensures { OpenedSays }
-{
-    0
-}
+{}
 
 /// A run that does not begin has the one line of its fault.
-pub fn unbegun_told<M: SiteMap>(run: &Run<'_, M>) -> u8
+pub fn unbegun_told<M: SiteMap>(run: &Run<'_, M>)
     ensures { UnbegunTold run.now }
-{
-    0
-}
+{}
 
 /// The lines that a run gives one after the other are those of its sheet.
-pub fn whole_told<M: SiteMap>(run: &Run<'_, M>) -> u8
+pub fn whole_told<M: SiteMap>(run: &Run<'_, M>)
     ensures { WholeTold run.now }
-{
-    0
-}
+{}
 
 /// A sheet's code, site and call lines leave one list of lines.
-pub fn told_one() -> u8
+pub fn told_one()
     ensures { ToldOne }
-{
-    0
-}
+{}
 
 /// A sheet's bytes alone leave one list of lines.
-pub fn lines_one() -> u8
+pub fn lines_one()
     ensures { LinesOne }
-{
-    0
-}
+{}

@@ -1,15 +1,11 @@
 -- The positions of a set, counted from its word.
-use Rattle.std.proofs.Common.{◌≡◌, ℕ, zero, suc, ◌+◌, ◌-◌, ◌^◌, ◌<◌, ◌≤◌, Bool, true, false, cond, List, [], ◌∷◌, ◌++◌, length, take, set, filter, sym, refl, ap, ◌∙◌, add-one, arith}
-use native.Mathlib.Nat.{min-le_left}
-use lib.Count.{ones}
+use Rattle.std.proofs.Common.{◌≡◌, ℕ, zero, suc, ◌+◌, ◌-◌, ◌<◌, true, false, cond, List, [], ◌∷◌, ◌++◌, filter, sym, ap, ◌∙◌, add-one, arith}
 use Rattle.std.specs.List.{range_with_len, AllByRecursion}
 use Rattle.std.proofs.lemmas.List.FromFn.{length-range_with_len, get_or-range_with_len}
 use Rattle.std.proofs.lemmas.List.Elements.{filter-append}
 use Rattle.std.proofs.ByRecursion.{all_kept_by, All-from_get_or}
-use Rattle.std.proofs.lemmas.List.{take_more_set, append-nil, length-take}
+use Rattle.std.proofs.lemmas.List.{append-nil}
 use Rattle.site.specs.Words.{member}
-use Rattle.choices.specs.Sums.{count_to}
-use Rattle.choices.proofs.Words.{ones-count}
 use Rattle.sheet.specs.Replies.{positions}
 
 counting_more : (a n : ℕ) → range_with_len a (n + 1) ≡ range_with_len a n ++ ((a + n) ∷ [])
@@ -36,15 +32,7 @@ up-yes w i h = up_more w i ∙ ap (λ b. up_to w i ++ cond b ((i + 1) ∷ []) []
 pub up-no : (w i : ℕ) → member w i ≡ false → up_to w (i + 1) ≡ up_to w i
 up-no w i h = up_more w i ∙ ap (λ b. up_to w i ++ cond b ((i + 1) ∷ []) []) h ∙ append-nil (up_to w i)
 
-pub count-more : (p : ℕ → Bool) (i : ℕ) → count_to (i + 1) p ≡ cond (p i) 1 0 + count_to i p
-unfolding count_to
-count-more p i = ap (λ n. count_to n p) (add-one i)
-
-pub count_none : (p : ℕ → Bool) → count_to 0 p ≡ 0
-unfolding count_to
-count_none p = refl
-
--- positions are at most 32, and as many as the word has ones
+-- positions are at most 32
 pub positions-low : (w : ℕ) → AllByRecursion (λ p. p < 100) (positions w)
 unfolding positions
 positions-low w =
@@ -55,14 +43,3 @@ positions-low w =
 pub up-all : (w i : ℕ) → i ≡ 32 → up_to w i ≡ positions w
 unfolding positions
 up-all w i e = ap (up_to w) e
-
--- the first entries of a list that has the positions up to i, with one more at the end
-pub places-more : (places : List ℕ) (w n i : ℕ) → n < length places → member w i ≡ true → take n places ≡ up_to w i
-    → take (n + 1) (set places n (i + 1)) ≡ up_to w (i + 1)
-places-more places w n i low on e = take_more_set places n (i + 1) low ∙ ap (λ l. l ++ ((i + 1) ∷ [])) e ∙ sym (up-yes w i on)
-
-pub positions-few : (w n : ℕ) (places : List ℕ) → n ≤ 32 → take n places ≡ positions w → length (positions w) ≤ 32
-positions-few w n places h e = omega (arith, sym (ap length e), length-take n places, min-le_left n (length places))
-
-pub ones-all : (w n i : ℕ) → w < 2 ^ 32 → i ≡ 32 → n ≡ count_to i (member w) → n ≡ ones w
-ones-all w n i h e t = t ∙ ap (λ j. count_to j (member w)) e ∙ sym (ones-count 32 w h)

@@ -1,58 +1,39 @@
 -- A long list of nodes, cut to nine.
-use Rattle.std.proofs.Common.{◌≡◌, ℕ, zero, suc, ◌<◌, ◌≤◌, List, [], ◌∷◌, ◌++◌, length, get_or, take, drop, set, Some, Ok, sym, refl, ap, ◌∙◌, subst, inl, inr, arith, length-append, length-take}
-use native.Mathlib.Nat.{le-min}
-use Rattle.std.proofs.lemmas.Bool.{cases_lt}
+use Rattle.std.proofs.Common.{◌≡◌, ℕ, ◌<◌, ◌≤◌, cond, ltb, List, [], ◌∷◌, ◌++◌, length, take, Some, Ok, sym, refl, ap, ◌∙◌, subst, inl, inr, arith, length-append}
+use Rattle.std.proofs.lemmas.List.{append-nil, take_all, length-take-le}
+use Rattle.std.proofs.lemmas.Bool.{cases_lt, lt-ltb, le-ltb}
 use Rattle.site.specs.Site.{Site}
-use Rattle.text.specs.NodeLists.{padded, kept}
+use Rattle.text.specs.NodeLists.{kept}
 use Rattle.text.specs.declared.nodes.NodeList.{NodeList}
 use Rattle.text.specs.Texts.{whole}
+use Rattle.reader.specs.declared.calls.Asked.{Asked}
+use Rattle.reader.specs.declared.calls.Asked.TheVariants.{Offer, Seal, Plan, Deletions, Release, Abandon}
 use Rattle.store.specs.Stripes.{Code, Ledger, Call, offer}
 use Rattle.store.specs.Ledger.{ledger}
 use Rattle.sheet.specs.Replies.{reply_text}
 use Rattle.sheet.specs.Runs.{Lined, line_for}
+use Rattle.sheet.specs.Said.{Stands, first_of, sent, sent_nodes}
 use Rattle.sheet.proofs.Lines.{ledger-more, long-answer, long-step}
 
--- one more of xs over zs
-pub over-more : (i : ℕ) (xs zs : List ℕ) → i < length xs → i < length zs → set (take i xs ++ drop i zs) i (get_or xs i 0) ≡ take (suc i) xs ++ drop (suc i) zs
-over-more i [] zs h k = absurd (omega arith)
-over-more i (x ∷ xs) [] h k = absurd (omega arith)
-over-more zero (x ∷ xs) (z ∷ zs) h k = refl
-over-more (suc i) (x ∷ xs) (z ∷ zs) h k = ap (λ l. x ∷ l) (over-more i xs zs (omega arith) (omega arith))
-
-length-padded : (n : ℕ) (vs : List ℕ) → length (padded n vs) ≡ n
-length-padded zero vs = refl
-length-padded (suc n) [] = ap suc (length-padded n [])
-length-padded (suc n) (v ∷ vs) = ap suc (length-padded n vs)
-
-front-padded : (n : ℕ) (vs more : List ℕ) → length vs ≤ n → take (length vs) (padded n vs ++ more) ≡ vs
-front-padded n [] more h = refl
-front-padded zero (v ∷ vs) more h = absurd (omega arith)
-front-padded (suc n) (v ∷ vs) more h = ap (λ l. v ∷ l) (front-padded n vs more (omega arith))
-
 -- what is sent of a list: all of it up to eight nodes, and nine of a longer one
-pub record Cut (vs ws : List ℕ) : Type 0 where
-  pub short : length vs ≤ 8 → ws ≡ vs
-  pub long : 8 < length vs → 8 < length ws
+record Cut (vs ws : List ℕ) : Type 0 where
+  short : length vs ≤ 8 → ws ≡ vs
+  long : 8 < length vs → 8 < length ws
 
-pub cut-kept : (list : NodeList) (vs ws : List ℕ) → Some list ≡ kept (Some vs) → ws ≡ take list.len (list.nodes ++ (0 ∷ [])) → Cut vs ws
+cut-kept : (list : NodeList) (vs ws : List ℕ) → Some list ≡ kept (Some vs) → ws ≡ sent_nodes (Offer list) → Cut vs ws
 cut-kept list vs ws e t =
-    let nodes : list.nodes ≡ padded 8 vs = cc in
+    let nodes : list.nodes ≡ take 8 vs = cc in
     let len : list.len ≡ length vs = cc in
-    let w : ws ≡ take (length vs) (padded 8 vs ++ (0 ∷ [])) = t ∙ (λ i. take (len i) (nodes i ++ (0 ∷ []))) in
+    let w : ws ≡ take 8 vs ++ cond (ltb 8 (length vs)) (0 ∷ []) [] = t ∙ (λ i. nodes i ++ cond (ltb 8 (len i)) (0 ∷ []) []) in
     record {
-      short = λ h. w ∙ front-padded 8 vs (0 ∷ []) h;
-      long = λ h. omega (
-        arith,
-        ap length w,
-        length-take (length vs) (padded 8 vs ++ (0 ∷ [])),
-        length-append (padded 8 vs) (0 ∷ []),
-        length-padded 8 vs,
-        le-min {k = 9} {a = length vs} {b = length (padded 8 vs ++ (0 ∷ []))} (omega arith) (omega (arith, length-append (padded 8 vs) (0 ∷ []), length-padded 8 vs)),
-      );
+      short = λ h. w ∙ ap (λ b. take 8 vs ++ cond b (0 ∷ []) []) (le-ltb 8 (length vs) h) ∙ append-nil (take 8 vs) ∙ take_all 8 vs h;
+      long = λ h.
+          let l : ws ≡ take 8 vs ++ (0 ∷ []) = w ∙ ap (λ b. take 8 vs ++ cond b (0 ∷ []) []) (lt-ltb 8 (length vs) h) in
+          omega (arith, ap length l, length-append (take 8 vs) (0 ∷ []), length-take-le 8 vs (omega arith));
     }
 
 -- a call with the cut list is answered as the call with the whole list
-pub lined-cut : (s : Site) (h : List Call) (b : ℕ) (vs ws : List ℕ) (o : Code) (after : Ledger) (count : ℕ) (was is : List ℕ) → (ledger s h).code ≡ Some o → Cut vs ws
+lined-cut : (s : Site) (h : List Call) (b : ℕ) (vs ws : List ℕ) (o : Code) (after : Ledger) (count : ℕ) (was is : List ℕ) → (ledger s h).code ≡ Some o → Cut vs ws
     → Lined s h (offer b ws) after count was is → Lined s h (offer b vs) after count was is
 lined-cut s h b vs ws o after count was is has cut lined =
     let l = ledger s h in
@@ -70,3 +51,25 @@ lined-cut s h b vs ws o after count was is has cut lined =
             short = subst (λ (t : List ℕ). length t ≤ 2048) line lined.short;
           }
     ]
+
+-- the first number of what is sent is the line's
+pub first-sent : (asked : Asked) (n : ℕ) (ws : List ℕ) → n ≡ first_of (sent asked n ws)
+first-sent (Offer list) n ws = refl
+first-sent (Seal v) n ws = refl
+first-sent Plan n ws = refl
+first-sent Deletions n ws = refl
+first-sent Release n ws = refl
+first-sent Abandon n ws = refl
+
+module _ (s : Site) (h : List Call) (n : ℕ) (ws : List ℕ) (o : Code) (after : Ledger) (count : ℕ) (was is : List ℕ) (call : Call) (has : (ledger s h).code ≡ Some o) where
+  same : (sent : Call) → call ≡ sent → Lined s h sent after count was is → Lined s h call after count was is
+  same sent e = subst (λ (x : Call). Lined s h x after count was is) (sym e)
+
+  -- what is sent is answered as the call that the line asks for
+  pub lined-sent : (asked : Asked) → Stands asked n call → ws ≡ sent_nodes asked → Lined s h (sent asked n ws) after count was is → Lined s h call after count was is
+  lined-sent (Offer list) p e lined = same (offer n p.0) p.2 (lined-cut s h n p.0 ws o after count was is has (cut-kept list p.0 ws p.1 e) lined)
+  lined-sent (Seal v) p e lined = same (sent (Seal v) n ws) p lined
+  lined-sent Plan p e lined = same (sent Plan n ws) p lined
+  lined-sent Deletions p e lined = same (sent Deletions n ws) p lined
+  lined-sent Release p e lined = same (sent Release n ws) p lined
+  lined-sent Abandon p e lined = same (sent Abandon n ws) p lined

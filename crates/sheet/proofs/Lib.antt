@@ -8,3 +8,4 @@ pub mod Goings
 pub mod Turns
 pub mod Begins
 pub mod Enoughs
+pub mod Sent

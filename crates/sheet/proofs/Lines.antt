@@ -1,69 +1,49 @@
 -- The lines of a run, one more at a time.
 use Rattle.std.proofs.Common.{◌≡◌, ℕ, suc, ◌<◌, ◌||◌, ltb, List, [], ◌∷◌, ◌++◌, length, take, drop, Some, None, Ok, Err, decimal, fold, Option, sym, refl, ap, ◌∙◌, append_assoc, append-nil, take-append-drop}
 use Rattle.std.specs.List.{flat_map}
+use Rattle.std.proofs.lemmas.List.Concat.{flat_map-append}
+use Rattle.std.proofs.lemmas.List.Sums.{fold-append}
 use Rattle.std.proofs.lemmas.Bool.{lt-ltb, or_right, cond-true}
 use Rattle.site.specs.Site.{Site}
-use Rattle.text.specs.Spaced.{spaced}
+use Rattle.text.specs.Spaced.{spaced, spaced_by}
 use Rattle.store.specs.declared.types.Refusal.TheVariants.{ListLength}
 use Rattle.store.specs.Stripes.{Block, Code, Ledger, Call, offer, start}
 use Rattle.store.specs.Refusals.{first, checks, refused_by}
 use Rattle.store.specs.Ledger.{step, ledger, noted, code_noted}
-use Rattle.store.specs.Answers.{Line, accepted, data_rows, parity_rows, plan_rows}
-use Rattle.sheet.specs.Replies.{row_text, further_text, rows_text}
+use Rattle.store.specs.Answers.{accepted, data_rows, parity_rows, plan_rows}
+use Rattle.sheet.specs.Replies.{row_text, rows_text}
 use Rattle.sheet.specs.Results.{refusal_of, crowd_of, answer_of}
 use Rattle.sheet.specs.Said.{Said}
 use Rattle.sheet.specs.Runs.{line_for, note_line, lines_from, calls_in}
 
 -- the rows of a plan are told by their nodes
 
-further-data : (s : Site) (bs : List Block) (p : List ℕ) → further_text (data_rows s bs p) ≡ flat_map (λ v. 32 ∷ decimal v) (take (length bs) p)
-further-data s [] p = refl
-further-data s (b ∷ bs) [] = refl
-further-data s (b ∷ bs) (v ∷ p) = ap (λ l. 32 ∷ (decimal v ++ l)) (further-data s bs p)
+data-said : (s : Site) (bs : List Block) (p : List ℕ) → flat_map (λ r. 32 ∷ row_text r) (data_rows s bs p) ≡ flat_map (λ v. 32 ∷ decimal v) (take (length bs) p)
+data-said s [] p = refl
+data-said s (b ∷ bs) [] = refl
+data-said s (b ∷ bs) (v ∷ p) = ap (λ l. 32 ∷ (decimal v ++ l)) (data-said s bs p)
 
-further-parity : (s : Site) (i : ℕ) (p : List ℕ) → further_text (parity_rows s i p) ≡ flat_map (λ v. 32 ∷ decimal v) p
-further-parity s i [] = refl
-further-parity s i (v ∷ p) = ap (λ l. 32 ∷ (decimal v ++ l)) (further-parity s (suc i) p)
+parity-said : (s : Site) (i : ℕ) (p : List ℕ) → flat_map (λ r. 32 ∷ row_text r) (parity_rows s i p) ≡ flat_map (λ v. 32 ∷ decimal v) p
+parity-said s i [] = refl
+parity-said s i (v ∷ p) = ap (λ l. 32 ∷ (decimal v ++ l)) (parity-said s (suc i) p)
 
-further-append : (xs ys : List Line) → further_text (xs ++ ys) ≡ further_text xs ++ further_text ys
-further-append [] ys = refl
-further-append (x ∷ xs) ys = ap (λ l. 32 ∷ l) (ap (λ l. row_text x ++ l) (further-append xs ys) ∙ sym (append_assoc (row_text x) (further_text xs) (further_text ys)))
-
-spaced-append : (xs ys : List ℕ) → flat_map (λ v. 32 ∷ decimal v) (xs ++ ys) ≡ flat_map (λ v. 32 ∷ decimal v) xs ++ flat_map (λ v. 32 ∷ decimal v) ys
-spaced-append [] ys = refl
-spaced-append (x ∷ xs) ys = ap (λ l. 32 ∷ l) (ap (λ l. decimal x ++ l) (spaced-append xs ys) ∙ sym (append_assoc (decimal x) (flat_map (λ v. 32 ∷ decimal v) xs) (flat_map (λ v. 32 ∷ decimal v) ys)))
-
-further-plan : (s : Site) (bs : List Block) (p : List ℕ) → further_text (plan_rows s bs p) ≡ flat_map (λ v. 32 ∷ decimal v) p
-further-plan s bs p =
-    further-append (data_rows s bs p) (parity_rows s 1 (drop (length bs) p))
-    ∙ ap (λ l. l ++ further_text (parity_rows s 1 (drop (length bs) p))) (further-data s bs p)
-    ∙ ap (λ l. flat_map (λ v. 32 ∷ decimal v) (take (length bs) p) ++ l) (further-parity s 1 (drop (length bs) p))
-    ∙ sym (spaced-append (take (length bs) p) (drop (length bs) p))
+plan-said : (s : Site) (bs : List Block) (p : List ℕ) → flat_map (λ r. 32 ∷ row_text r) (plan_rows s bs p) ≡ flat_map (λ v. 32 ∷ decimal v) p
+plan-said s bs p =
+    flat_map-append (λ r. 32 ∷ row_text r) (data_rows s bs p) (parity_rows s 1 (drop (length bs) p))
+    ∙ ap (λ l. l ++ flat_map (λ r. 32 ∷ row_text r) (parity_rows s 1 (drop (length bs) p))) (data-said s bs p)
+    ∙ ap (λ l. flat_map (λ v. 32 ∷ decimal v) (take (length bs) p) ++ l) (parity-said s 1 (drop (length bs) p))
+    ∙ sym (flat_map-append (λ v. 32 ∷ decimal v) (take (length bs) p) (drop (length bs) p))
     ∙ ap (flat_map (λ v. 32 ∷ decimal v)) (take-append-drop (length bs) p)
 
-tail : List ℕ → List ℕ
-tail [] = []
-tail (x ∷ xs) = xs
-
 -- without its first space, a text with a space before each has single spaces between
-rows-tail : (rows : List Line) → rows_text rows ≡ tail (further_text rows)
-unfolding tail
-rows-tail [] = refl
-rows-tail (x ∷ xs) = refl
-
-spaced-tail : (vs : List ℕ) → spaced vs ≡ tail (flat_map (λ v. 32 ∷ decimal v) vs)
-unfolding tail
-spaced-tail [] = refl
-spaced-tail (v ∷ vs) = refl
+spaced-tail : {A : Type 0} (text : A → List ℕ) (xs : List A) → spaced_by text xs ≡ drop 1 (flat_map (λ x. 32 ∷ text x) xs)
+spaced-tail text [] = refl
+spaced-tail text (x ∷ xs) = refl
 
 pub plan-named : (s : Site) (bs : List Block) (p : List ℕ) → rows_text (plan_rows s bs p) ≡ spaced p
-plan-named s bs p = rows-tail (plan_rows s bs p) ∙ ap tail (further-plan s bs p) ∙ sym (spaced-tail p)
+plan-named s bs p = spaced-tail row_text (plan_rows s bs p) ∙ ap (drop 1) (plan-said s bs p) ∙ sym (spaced-tail decimal p)
 
 -- the ledger of the calls so far, and one more
-
-fold-append : {A B : Type 0} (f : B → A → B) (b : B) (xs ys : List A) → fold f b (xs ++ ys) ≡ fold f (fold f b xs) ys
-fold-append f b [] ys = refl
-fold-append f b (x ∷ xs) ys = fold-append f (f b x) xs ys
 
 pub ledger-more : (s : Site) (calls : List Call) (call : Call) → ledger s (calls ++ (call ∷ [])) ≡ step s (ledger s calls) call
 ledger-more s calls call = fold-append (step s) start calls (call ∷ [])

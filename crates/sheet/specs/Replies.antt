@@ -2,7 +2,7 @@
 use Rattle.std.specs.Prelude.{ℕ, ◌-◌, cond, List, [], ◌∷◌, ◌++◌, take, Ok, Err, codes, decimal, filter, Result, ◌==◌}
 use Rattle.std.specs.List.{range_with_len}
 use Rattle.site.specs.Words.{member}
-use Rattle.text.specs.Spaced.{spaced}
+use Rattle.text.specs.Spaced.{spaced, spaced_by}
 use Rattle.store.specs.declared.types.Answer.{Answer}
 use Rattle.store.specs.declared.types.Answer.TheVariants.{Done, Position, Rows, Standing}
 use Rattle.store.specs.declared.types.Refusal.{Refusal}
@@ -25,15 +25,9 @@ positions w = filter (λ p. member w (p - 1)) (range_with_len 1 32)
 abbrev pub row_text : Line → List ℕ
 row_text (kind, number, node, rack) = cond (kind == 2) (decimal number ++ (58 ∷ decimal node)) (decimal node)
 
--- with a space before each
-abbrev pub further_text : List Line → List ℕ
-further_text [] = []
-further_text (row ∷ rows) = 32 ∷ (row_text row ++ further_text rows)
-
 -- with single spaces between
 abbrev pub rows_text : List Line → List ℕ
-rows_text [] = []
-rows_text (row ∷ rows) = row_text row ++ further_text rows
+rows_text rows = spaced_by row_text rows
 
 -- what an accepted call tells besides: an offer its block's position, a plan and deletions their rows
 abbrev pub answer_text : Answer → List Line → List ℕ

@@ -1,5 +1,5 @@
 -- What a call line says: a call of the ledger's, or a fault.
-use Rattle.std.specs.Prelude.{◌≡◌, ℕ, ◌+◌, ◌≤◌, cond, List, [], ◌∷◌, map, Some, Ok, Err, codes, decimal, Result, ◌==◌}
+use Rattle.std.specs.Prelude.{◌≡◌, ℕ, ◌+◌, ◌≤◌, cond, if◌then◌else◌, List, [], ◌∷◌, ◌++◌, map, Some, Ok, Err, codes, decimal, Result, ◌==◌, nat_lt}
 use Rattle.std.specs.List.{AllByRecursion}
 use Rattle.text.specs.Faults.{Least}
 use Rattle.text.specs.Pieces.{parted}
@@ -88,6 +88,24 @@ Stands Plan n call = call ≡ plan n 112
 Stands Deletions n call = call ≡ deletions n 112
 Stands Release n call = call ≡ release n
 Stands Abandon n call = call ≡ abandon n
+
+-- the nodes that are sent for an offer: those that are kept of its list, and node 0 after them where it has more
+abbrev pub sent_nodes : Asked → List ℕ
+sent_nodes (Offer list) = list.nodes ++ (if nat_lt 8 list.len then 0 ∷ [] else [])
+sent_nodes (Seal v) = []
+sent_nodes Plan = []
+sent_nodes Deletions = []
+sent_nodes Release = []
+sent_nodes Abandon = []
+
+-- the call that is sent to the store, an offer with these nodes
+abbrev pub sent : Asked → ℕ → List ℕ → Call
+sent (Offer list) n ws = offer n ws
+sent (Seal v) n ws = seal n v
+sent Plan n ws = plan n 112
+sent Deletions n ws = deletions n 112
+sent Release n ws = release n
+sent Abandon n ws = abandon n
 
 -- the start node of a seal is one that a sheet can write
 abbrev pub Low : Asked → Type 0

@@ -1,13 +1,14 @@
-// What ends a run before its first call.
-ghost use Rattle.std.specs.Prelude.{◌≡◌, ◌≤◌, length, take};
-ghost use Rattle.text.specs.Texts.{whole};
+// What ends a run before its first call, and the line of a fault.
+ghost use Rattle.std.specs.Prelude.{◌≡◌};
 ghost use Rattle.sheet.specs.declared.faults.RunFault.TheVariants.{Site, SetUp, Calls};
-ghost use Rattle.sheet.specs.FaultTexts.{fault_line, run_fault_text};
+ghost use Rattle.sheet.specs.FaultTexts.{fault_line, run_fault_text, told_line};
 
-use crate::replies::{refusal_number, write_fault};
+use crate::put::Put;
 use reader::opening::SiteFault;
 use store::types::Refusal;
 use text::fault::Fault;
+use text::place::Place;
+use text::writer::Writer;
 
 /// The line of the code's values, where a refused set-up is told.
 pub const CODE_LINE: u32 = 2;
@@ -44,40 +45,68 @@ impl From<Fault> for RunFault {
     }
 }
 
-/// Writes the line of a reader's fault, and says how long it is.
-pub fn write_read_fault(out: &mut [u8], fault: Fault) -> usize
-    ensures value { result ≡ length (take (length out.old) (fault_line fault)) }
-    ensures after { out.new ≡ whole out.old (fault_line fault) }
-    ensures short { length (fault_line fault) ≤ 2048 }
-{
-    write_fault(
-        out,
-        u32::from(fault.kind.number()),
-        fault.place.line,
-        fault.place.column,
-    )
+/// A fault as its line tells it: by its number and its place.
+#[derive(Clone, Copy, PartialEq, Eq, Debug)]
+pub struct FaultLine {
+    pub number: u32,
+    pub place: Place,
 }
 
-fn write_site_fault(out: &mut [u8], fault: SiteFault) -> usize
-    ensures value { result ≡ length (take (length out.old) (run_fault_text (Site fault))) }
-    ensures after { out.new ≡ whole out.old (run_fault_text (Site fault)) }
-    ensures short { length (run_fault_text (Site fault)) ≤ 2048 }
-{
-    match fault {
-        SiteFault::Read(fault) => write_read_fault(out, fault),
-        SiteFault::Refused(refusal, line) => write_fault(out, refusal.number(), line, 1),
+impl From<Fault> for FaultLine {
+    ghost from_gives = { λ f l. told_line l ≡ fault_line f };
+
+    fn from(fault: Fault) -> FaultLine {
+        FaultLine {
+            number: u32::from(u8::from(fault.kind)),
+            place: fault.place,
+        }
     }
 }
 
-/// Writes the line of the fault that ends a run, and says how long it is.
-pub fn write_run_fault(out: &mut [u8], fault: RunFault) -> usize
-    ensures value { result ≡ length (take (length out.old) (run_fault_text fault)) }
-    ensures after { out.new ≡ whole out.old (run_fault_text fault) }
-    ensures short { length (run_fault_text fault) ≤ 2048 }
-{
-    match fault {
-        RunFault::Site(fault) => write_site_fault(out, fault),
-        RunFault::SetUp(refusal) => write_fault(out, refusal_number(refusal), CODE_LINE, 1),
-        RunFault::Calls(fault) => write_read_fault(out, fault),
+impl From<SiteFault> for FaultLine {
+    ghost from_gives = { λ f l. told_line l ≡ run_fault_text (Site f) };
+
+    fn from(fault: SiteFault) -> FaultLine {
+        match fault {
+            SiteFault::Read(fault) => FaultLine::from(fault),
+            SiteFault::Refused(refusal, line) => FaultLine {
+                number: u32::from(refusal),
+                place: Place { line, column: 1 },
+            },
+        }
+    }
+}
+
+impl From<RunFault> for FaultLine {
+    ghost from_gives = { λ f l. told_line l ≡ run_fault_text f };
+
+    fn from(fault: RunFault) -> FaultLine {
+        match fault {
+            RunFault::Site(fault) => FaultLine::from(fault),
+            RunFault::SetUp(refusal) => FaultLine {
+                number: u32::from(refusal),
+                place: Place {
+                    line: CODE_LINE,
+                    column: 1,
+                },
+            },
+            RunFault::Calls(fault) => FaultLine::from(fault),
+        }
+    }
+}
+
+impl Put for FaultLine {
+    ghost text = { told_line };
+
+    ghost most = { λ _. 33 };
+
+    fn put(&self, writer: &mut Writer<'_>) {
+        let FaultLine { number, place } = *self;
+        number.put(writer);
+        writer.put(b',');
+        place.line.put(writer);
+        writer.put(b',');
+        place.column.put(writer);
+        writer.put(b'\n');
     }
 }

@@ -3,8 +3,9 @@
 
 pub mod answers;
 pub mod faults;
-mod front;
+pub mod nodes;
 pub mod positions;
+pub mod put;
 pub mod replies;
 pub mod run;
 pub mod running;

@@ -1,4 +1,6 @@
 // A run of a sheet; what it does is in the module `running`.
+ghost use Rattle.std.specs.Prelude.{◌≡◌};
+
 use site::SiteMap;
 use store::store::Store;
 use text::lines::Lines;
@@ -14,3 +16,12 @@ pub struct Run<'a, M> {
 /// Refusal 15: the buffer is shorter than a line may be.
 #[derive(Clone, Copy, PartialEq, Eq, Debug)]
 pub struct ShortBuffer;
+
+/// The number that the refusal is told by.
+impl From<ShortBuffer> for u32 {
+    ghost from_gives = { λ _ n. n ≡ 15 };
+
+    fn from(_: ShortBuffer) -> u32 {
+        15
+    }
+}

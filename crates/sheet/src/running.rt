@@ -4,22 +4,14 @@ ghost use Rattle.text.specs.Rows.{left_of};
 ghost use Rattle.sheet.specs.Going.{Spent, NextOf};
 
 use crate::answers::answer_line;
-use crate::faults::write_read_fault;
+use crate::faults::FaultLine;
+use crate::put::write;
 use crate::run::{Run, ShortBuffer};
 use reader::calls::read_call;
 use site::SiteMap;
 
 /// The most bytes that a line may have.
 pub const LINE: usize = 2048;
-
-impl ShortBuffer {
-    /// The number that the refusal is told by.
-    pub fn number(&self) -> u32
-        ensures { result ≡ 15 }
-    {
-        15
-    }
-}
 
 impl<'a, M: SiteMap> Run<'a, M> {
     /// Writes the next line from the buffer's front, and tells its length, or that there is no more line.
@@ -31,12 +23,13 @@ impl<'a, M: SiteMap> Run<'a, M> {
         if out.len() < LINE {
             return Err(ShortBuffer);
         }
-        let Some(line) = self.lines.next_line() else {
+        // No further line is an answer here, which a `?` would not hand on.
+        let Some(line) = self.lines.next() else {
             return Ok(None);
         };
         match read_call(&self.order, line) {
             Ok(call) => Ok(Some(answer_line(&mut self.store, call, out))),
-            Err(fault) => Ok(Some(write_read_fault(out, fault))),
+            Err(fault) => Ok(Some(write(&FaultLine::from(fault), out))),
         }
     }
 }

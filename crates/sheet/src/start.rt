@@ -11,8 +11,8 @@ ghost use Rattle.sheet.specs.Starts.{count_of, RunOpened, Begun};
 ghost use Rattle.sheet.specs.Sheets.{Enough};
 
 use crate::faults::RunFault;
-use crate::front::front;
 use crate::run::Run;
+use fixed::slices::front;
 use reader::calls::read_calls;
 use reader::code::CodeValues;
 use reader::listing::TABLE;
@@ -20,9 +20,9 @@ use reader::maps::SheetMap;
 use reader::opening::{Opening, open_sheet};
 use reader::sites::SiteValues;
 use site::target::TargetMap;
-use site::{Mark, Node, Rack, SiteMap};
+use site::{Mark, Rack, SiteMap};
 use store::store::Store;
-use store::types::{Call, Kind, Row};
+use store::types::Call;
 use text::lines::Lines;
 
 /// How many bytes of a sheet are enough to answer it: one more than it may have, so that a longer one is noticed.
@@ -40,8 +40,7 @@ pub fn open_run<'a>(
 ) -> Result<Opening, RunFault>
     ensures { RunOpened sheet.now table.old table.new lines.new result }
 {
-    let opening = open_sheet(sheet, lines, table)?;
-    Ok(opening)
+    Ok(open_sheet(sheet, lines, table)?)
 }
 
 // How many places of the table the site has.
@@ -49,8 +48,8 @@ fn listed_nodes(site: SiteValues) -> usize
     ensures { result ≡ count_of site }
 {
     match site {
-        SiteValues::Regular { racks: _, each: _ } => 0,
-        SiteValues::Listed { nodes } => nodes as usize,
+        SiteValues::Regular { .. } => 0,
+        SiteValues::Listed { nodes } => usize::from(nodes),
     }
 }
 
@@ -87,18 +86,12 @@ impl<'a, M: SiteMap> Run<'a, M> {
         ensures refused { (e : Refusal) → result ≡ Err (SetUp e) → self.new ≡ self.old }
         ensures begun { ledger_of self.old.store ≡ start → Begun (M.SiteMap.meaning self.old.store.map) code (left_of self.old.lines) self.old.lines.number result self.new }
     {
-        let call: Call<'static> = Call::SetUp {
+        let call = Call::SetUp {
             n: code.n,
             k: code.k,
             c: code.c,
         };
-        let mut rows = [Row {
-            kind: Kind::Data,
-            number: 0,
-            node: Node(0),
-            rack: Rack(0),
-        }; 1];
-        self.store.call(&call, &mut rows)?;
+        self.store.call(&call, &mut [])?;
         self.order = read_calls(&mut self.lines)?;
         Ok(())
     }

@@ -1,42 +1,31 @@
 // Whole sheets, one test a topic.
-use crate::faults::{RunFault, write_run_fault};
-use crate::front::front;
+use crate::faults::{FaultLine, RunFault};
+use crate::put::write;
 use crate::run::Run;
 use crate::start::{open_run, sheet_map};
+use fixed::slices::front;
 use reader::code::CodeValues;
 use reader::listing::TABLE;
 use site::{Mark, Rack, SiteMap};
 use text::lines::Lines;
 
-// What follows a line in a text, if the text begins with it.
-fn past<'t>(text: &'t [u8], line: &[u8]) -> Option<&'t [u8]> {
-    let n = line.len();
-    if n <= text.len() && text.starts_with(line) {
-        Some(&text[n..])
-    } else {
-        None
-    }
-}
-
 // Whether the one line of a fault is this text.
 fn is_fault(fault: RunFault, text: &[u8]) -> bool {
     let mut out = [0; 2048];
-    let n = write_run_fault(&mut out, fault);
+    let n = write(&FaultLine::from(fault), &mut out);
     front(&out, n) == text
 }
 
 // What follows the run's next line in a text that begins with it.
 fn past_next<'t, M: SiteMap>(run: &mut Run<'_, M>, text: &'t [u8]) -> Option<&'t [u8]> {
     let mut out = [0; 2048];
-    match run.next_line(&mut out) {
-        Ok(Some(n)) => past(text, front(&out, n)),
-        Ok(None) => None,
-        Err(_) => None,
-    }
+    let len = run.next_line(&mut out).ok().flatten()?;
+    text.strip_prefix(front(&out, len))
 }
 
-// Whether the lines of a run, one after the other, are this text.
-fn runs<M: SiteMap + Drop>(mut run: Run<'_, M>, code: CodeValues, text: &[u8]) -> bool {
+// Whether the lines of a run over a map, one after the other, are this text.
+fn runs<M: SiteMap + Drop>(map: M, lines: Lines<'_>, code: CodeValues, text: &[u8]) -> bool {
+    let mut run = Run::new(map, lines);
     if let Err(fault) = run.begin(code) {
         return is_fault(fault, text);
     }
@@ -53,13 +42,12 @@ fn runs<M: SiteMap + Drop>(mut run: Run<'_, M>, code: CodeValues, text: &[u8]) -
 // Whether the lines of a sheet are this text.
 fn prints(sheet: &[u8], text: &[u8]) -> bool {
     let mut lines = Lines::new(b"");
-    let mut table = [(Rack(0), Mark::No); TABLE];
+    let mut table = [(Rack::default(), Mark::default()); TABLE];
     match open_run(sheet, &mut lines, &mut table) {
-        Ok(opening) => runs(
-            Run::new(sheet_map(opening, &table), lines),
-            opening.head.code,
-            text,
-        ),
+        Ok(opening) => {
+            let map = sheet_map(opening, &table);
+            runs(&map, lines, opening.head.code, text)
+        }
         Err(fault) => is_fault(fault, text),
     }
 }

@@ -1,4 +1,4 @@
-use Rattle.std.proofs.Common.{sym, ap, ◌∙◌, arith}
+use Rattle.std.proofs.Common.{sym, ap, ◌∙◌}
 use Rattle.text.specs.Rows.{left_of}
 use Rattle.capi.proofs.Told.{begun-put, unbegun-put}
 use Rattle.capi.proofs.sheets.put_calls.Goals as goal
@@ -9,23 +9,17 @@ returns-in-Ok g c =
     let run = c.new-run.result in
     let new = c.new-run.ensures in
     let means = ap meaning new.map in
-    record {
-      put = λ sheet says left number.
-          begun-put sheet c.args.code (meaning c.args.map) (meaning run.store.map) (left_of run.lines) run.lines.number c.begin.new.self says means (new.left ∙ left)
-          (new.number ∙ number) c.args.writer.now c.put_lines.new.writer c.put_lines.result tt c.put_lines.new.run (c.in-Ok.ensures.begun new.ledger)
-          (λ p same going. c.put_lines.ensures.put p (same ∙ sym (ap meaning c.in-Ok.ensures.map ∙ means)) going);
-      short = c.put_lines.ensures.short;
-    }
+    λ sheet says left number.
+    begun-put sheet c.args.code (meaning c.args.map) (meaning run.store.map) (left_of run.lines) run.lines.number c.begin.new.self says means (new.left ∙ left)
+    (new.number ∙ number) c.args.writer.now c.put_lines.new.writer c.put_lines.result.bytes tt c.put_lines.new.run (c.in-Ok.ensures.begun new.ledger)
+    (λ p same going. c.put_lines.ensures p (same ∙ sym (ap meaning c.in-Ok.ensures.map ∙ means)) going)
 
 pub returns : goal.returns
 returns g c =
     let meaning = g.M.SiteMap.meaning in
     let run = c.new-run.result in
     let new = c.new-run.ensures in
-    record {
-      put = λ sheet says left number.
-          unbegun-put sheet c.args.code (meaning c.args.map) (meaning run.store.map) (left_of run.lines) run.lines.number c.begin.new.self says (ap meaning new.map) (new.left ∙ left)
-          (new.number ∙ number) c.args.writer.now c.put_fault.new.writer c.put_fault.result c.in-Err.fault (c.in-Err.ensures.begun new.ledger) c.put_fault.ensures.wrote
-          c.put_fault.ensures.count;
-      short = omega (arith, c.put_fault.ensures.short);
-    }
+    λ sheet says left number.
+    unbegun-put sheet c.args.code (meaning c.args.map) (meaning run.store.map) (left_of run.lines) run.lines.number c.begin.new.self says (ap meaning new.map) (new.left ∙ left)
+    (new.number ∙ number) c.args.writer.now c.put_fault.new.writer c.put_fault.result.bytes c.in-Err.fault (c.in-Err.ensures.begun new.ledger) c.put_fault.ensures.wrote
+    c.put_fault.ensures.count

@@ -8,6 +8,6 @@ pub returns-in-Err : goal.returns-in-Err
 returns-in-Err c =
     let e = ap status (sym c.in-Err.is) in
     record {
-      text = subst (Wrote _ _) (ap decimal c.refusal_number.ensures ∙ e) c.put_number.ensures;
+      text = subst (Wrote _ _) (ap decimal c.from.ensures ∙ e) c.put_number.ensures;
       short = omega (arith, ap length e, two_digits _ (number-low c.in-Err.refusal));
     }

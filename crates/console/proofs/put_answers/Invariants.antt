@@ -1,6 +1,0 @@
-use Rattle.std.proofs.Common.{length}
-use Rattle.text.specs.Rows.{left_of}
-use Rattle.console.proofs.put_answers.Given as goal
-
-abbrev pub decreases-loop-len : goal.decreases-loop-len
-decreases-loop-len g l = length (left_of l.run.lines)
