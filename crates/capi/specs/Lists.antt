@@ -24,6 +24,11 @@ Sized n = (2 ≤ n) × (n ≤ 8)
 abbrev pub AllSized : List ℕ → Type 0
 AllSized ns = (i : ℕ) → i < length ns → Sized (slice_index ns i)
 
+-- what reading into a list gives: the list's blocks, or why there are none
+abbrev pub read_into : Result (Unit {0}) Refused → List Block → Result (List Block) Refused
+read_into (Ok u) bs = Ok bs
+read_into (Err e) bs = Err e
+
 -- the blocks of the lists, or the first that is wrong with the arrays
 abbrev pub Read : List ℕ → List ℕ → Result (List Block) Refused → Type 0
 Read vs ns (Ok bs) = Shaped vs ns × AllSized ns × (lists_of bs ≡ lists_in vs ns)

@@ -5,6 +5,7 @@ ghost use Rattle.capi.specs.Admissions.{Admits, AdmitTold};
 use crate::lists::{Lists, read_block};
 use crate::refused::Refused;
 use crate::sites::{VaultSite, site_map};
+use blocks::lists::Blocks;
 use placement::admit::admit;
 
 /// Whether the blocks of some lists and an offered one have a choice. If not, the least tight set is told, its bit p − 1 for
@@ -18,7 +19,8 @@ pub(crate) fn admit_lists(
     ensures { Admits site.now c lists.now.nodes.now lists.now.lens.now offered.now result }
 {
     let map = site_map(site)?;
-    let blocks = lists.blocks()?;
+    let mut blocks = Blocks::new();
+    lists.read(&mut blocks)?;
     let block = read_block(offered)?;
     admit(&map, c, &blocks, &block).map_err(Refused::NoChoice)
 }

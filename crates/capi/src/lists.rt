@@ -1,8 +1,8 @@
 // Blocks' lists in flat arrays: eight entries to a block, of which its length says how many are listed.
-ghost use Rattle.std.specs.Prelude.{◌≡◌, length, MatchResult};
+ghost use Rattle.std.specs.Prelude.{◌≡◌, [], length, MatchResult};
 ghost use Rattle.blocks.specs.Blocks.{copies_of};
 ghost use Rattle.capi.specs.declared.refused.Refused.TheVariants.{ListLength};
-ghost use Rattle.capi.specs.Lists.{Sized, Read};
+ghost use Rattle.capi.specs.Lists.{Sized, Read, read_into};
 
 use crate::refused::Refused;
 use blocks::block::Block;
@@ -30,19 +30,19 @@ pub(crate) fn read_block(list: &[u16]) -> Result<Block, Refused>
 }
 
 impl Lists<'_> {
-    /// The blocks of the lists, in order.
-    pub(crate) fn blocks(&self) -> Result<Blocks, Refused>
-        ensures { Read self.now.nodes.now self.now.lens.now result }
+    /// The blocks of the lists, in order, into a list that has none yet.
+    // It is lent, so that it is not copied.
+    pub(crate) fn read(&self, blocks: &mut Blocks) -> Result<(), Refused>
+        ensures { blocks.old ≡ [] → Read self.now.nodes.now self.now.lens.now (read_into result blocks.new) }
     {
         if self.lens.len() > BLOCKS || self.nodes.len() != 8 * self.lens.len() {
             return Err(Refused::Arrays);
         }
-        let mut blocks = Blocks::new();
         for (i, len) in self.lens.iter().enumerate() {
             let entries = &self.nodes[8 * i..];
             let list = entries.get(..usize::from(*len)).ok_or(Refused::ListLength)?;
             let _ = blocks.push(read_block(list)?);
         }
-        Ok(blocks)
+        Ok(())
     }
 }

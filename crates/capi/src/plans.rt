@@ -8,7 +8,7 @@ use crate::lists::Lists;
 use crate::refused::Refused;
 use crate::sites::{VaultSite, site_map};
 use blocks::code::Code;
-use blocks::lists::Nodes;
+use blocks::lists::{Blocks, Nodes};
 use fixed::slices::put;
 use placement::plan::plan;
 use site::Node;
@@ -33,7 +33,8 @@ pub(crate) fn plan_lists(
 {
     let map = site_map(site)?;
     let code = Code::new(code.n, code.k, code.c).ok_or(Refused::OutsideLimits)?;
-    let blocks = lists.blocks()?;
+    let mut blocks = Blocks::new();
+    lists.read(&mut blocks)?;
     if lists.lens.len() != code.k() as usize {
         return Err(Refused::NotFull);
     }

@@ -86,10 +86,7 @@ fn put_sheet(writer: &mut Writer<'_>, sheet: &[u8]) -> Size
     let mut table = [(Rack::default(), Mark::default()); TABLE];
     let mut lines = Lines::new(b"");
     match open_run(sheet, &mut lines, &mut table) {
-        Ok(opening) => {
-            let map = sheet_map(opening, &table);
-            put_calls(writer, &map, lines, opening.head.code)
-        }
+        Ok(opening) => put_calls(writer, sheet_map(opening, &table), lines, opening.head.code),
         Err(fault) => put_fault(writer, fault),
     }
 }

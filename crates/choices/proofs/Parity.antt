@@ -77,7 +77,7 @@ module _ (s : Site) (c : ℕ) where
         | inr t ↦ rw t (parity-spaced (suc left) taken vs h)
       ]
 
-  parity-most : (left : ℕ) (taken vs : List ℕ) → length (parity s c left taken vs) ≤ left
+  pub parity-most : (left : ℕ) (taken vs : List ℕ) → length (parity s c left taken vs) ≤ left
   parity-most zero taken vs = omega arith
   parity-most (suc left) taken [] = omega arith
   parity-most (suc left) taken (v ∷ vs) =

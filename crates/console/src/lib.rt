@@ -47,10 +47,13 @@ pub fn print_answers(rt: &HostRuntime, sheet: &[u8]) -> io::Result<()> {
     let mut table = [(Rack::default(), Mark::default()); TABLE];
     let mut lines = Lines::new(b"");
     match open_run(sheet, &mut lines, &mut table) {
-        Ok(opening) => {
-            let map = sheet_map(opening, &table);
-            print_calls(rt, &map, lines, opening.head.code, &mut buffer)
-        }
+        Ok(opening) => print_calls(
+            rt,
+            sheet_map(opening, &table),
+            lines,
+            opening.head.code,
+            &mut buffer,
+        ),
         Err(fault) => print_line(rt, &FaultLine::from(fault), &mut buffer),
     }
 }

@@ -1,5 +1,5 @@
 // A list in fixed room. A clause sees the list of its items and nothing of the room.
-ghost use Rattle.std.specs.Prelude.{◌≡◌, ◌<◌, ◌≤◌, ◌==◌, [], ◌∷◌, ◌++◌, length, MatchResult, slice_get, slice_set, ⊤};
+ghost use Rattle.std.specs.Prelude.{◌≡◌, ◌<◌, ◌≤◌, ◌==◌, [], ◌∷◌, ◌++◌, length, MatchResult, slice_get, slice_set, min, replicate, ⊤};
 ghost use Rattle.std.specs.List.{list_any};
 
 use std::alloc::AllocError;
@@ -79,6 +79,16 @@ impl<T: Blank + Copy, const N: usize> FixedList<T, N> {
         }
     }
 
+    /// A list of blank items, as many as there is room for.
+    pub fn blanks(len: usize) -> Self
+        ensures { result ≡ replicate (min len N) T.blank }
+    {
+        FixedList {
+            at: [T::blank(); N],
+            len: len.min(N),
+        }
+    }
+
     /// How many items there are.
     pub fn len(&self) -> usize
         ensures value { result ≡ length self.now }
@@ -147,11 +157,20 @@ impl<T: Blank + Copy, const N: usize> TryFrom<&[T]> for FixedList<T, N> {
     ghost try_from_gives = { λ items r. MatchResult r (λ list. (length items.now ≤ N) × (list ≡ items.now)) (λ _. N < length items.now) };
 
     fn try_from(items: &[T]) -> Result<Self, Full> {
-        let mut list = FixedList::new();
-        for item in items {
-            list.push(*item)?;
+        if items.len() > N {
+            return Err(Full);
         }
-        Ok(list)
+        let mut at = [T::blank(); N];
+        // Over all the room, which is known beforehand: a loop over the items becomes a call that copies bytes (measured).
+        for i in 0..N {
+            if let Some(item) = items.get(i) {
+                at[i] = *item;
+            }
+        }
+        Ok(FixedList {
+            at,
+            len: items.len(),
+        })
     }
 }
 

@@ -1,5 +1,5 @@
 -- What a placing of all seats, or its failure, tells of the blocks' choices and tight sets.
-use Rattle.std.proofs.Common.{◌≡◌, ℕ, ◌≤◌, true, List, [], ◌∷◌, ◌++◌, map, length, get_or, Ok, Err, filter, Result, sym, refl, ap, ◌∙◌, subst, arith, MatchResult}
+use Rattle.std.proofs.Common.{◌≡◌, ℕ, ◌≤◌, true, List, [], ◌∷◌, ◌++◌, map, length, get_or, Ok, Err, filter, Option, Result, sym, refl, ap, ◌∙◌, subst, arith, MatchResult}
 use Rattle.std.specs.List.{range_with_len}
 use Rattle.std.proofs.lemmas.List.{length-map, map-append, length_push}
 use Rattle.site.specs.Site.{Site, Limits, keeps, node_rack}
@@ -81,6 +81,12 @@ module _ (s : Site) (limits : Limits s) (c : ℕ) where
     refused (bs ++ b ∷ []) seats (omega (arith, length_push bs b)) all w h,
     least (bs ++ b ∷ []) seats (omega (arith, length_push bs b)) all w h bs b refl,
   )
+
+-- where the blocks sit, if they do
+pub sat-there : (c : ℕ) (seats : List (List Seat)) (at : List (Option Seat)) (r : Result (Unit {0}) ℕ) → MatchResult r (λ _. AllSit c seats at) (NotAllSit c seats)
+    → MatchResult r (λ _. (at : List _) × AllSit c seats at) (NotAllSit c seats)
+sat-there c seats at (Ok u) h = (at, h)
+sat-there c seats at (Err w) h = h
 
 -- the same of the list of choices
 module _ (s : Site) (c : ℕ) where

@@ -35,8 +35,9 @@ Its s ds i j v = (j < length (slice_index_or ds i [])) × (v ≡ seat_at s (slic
 abbrev pub Kept : ℕ → Seat → Settling → Settling → Type 0
 Kept i v p q = (s : Site) (c : ℕ) (ds : List Copies) (j : ℕ) → Standing s c ds p → Its s ds i j v → Standing s c (narrow ds i j) q
 
--- with it they have no choice, and the lists are as before
+-- with it they have no choice, and the lists and who sits where are as before
 abbrev pub Vain : ℕ → Seat → Settling → Settling → Type 0
 Vain i v p q =
-    (s : Site) (c : ℕ) (ds : List Copies) → Standing s c ds p
-    → Standing s c ds q × ((j : ℕ) → Its s ds i j v → (vs : List ℕ) → Choice s c (narrow ds i j) vs → ⊥)
+    (q.seats ≡ p.seats) × (q.sat.at ≡ p.sat.at)
+    × ((s : Site) (c : ℕ) (ds : List Copies) → Standing s c ds p
+    → Standing s c ds q × ((j : ℕ) → Its s ds i j v → (vs : List ℕ) → Choice s c (narrow ds i j) vs → ⊥))

@@ -1,6 +1,6 @@
 -- Seats, and what they tell of a site: racks by node, and which block can use which node. Where the blocks sit is a seat for each that
 -- has one.
-use Rattle.std.specs.Prelude.{◌≡◌, ℕ, ◌+◌, ◌%◌, ◌^◌, ◌<◌, ◌≤◌, Bool, true, false, ◌⊎◌, List, [], length, Some, None, Option, ◌==◌, ◌≢◌, bit_or, slice_index_or}
+use Rattle.std.specs.Prelude.{◌≡◌, ℕ, ◌+◌, ◌/◌, ◌%◌, ◌^◌, ◌<◌, ◌≤◌, Bool, true, false, ◌⊎◌, List, [], length, Some, None, Option, ◌==◌, ◌≢◌, bit_or, slice_index, slice_index_or}
 use Rattle.site.specs.Words.{member}
 use Rattle.choices.specs.Sums.{count_to}
 use Rattle.choices.specs.Search.{Sized, Partial, Ready, Complete, Crowded, Subset, Failed, Blocked, unseen}
@@ -41,6 +41,14 @@ lies_in r (Some v) = v.rack.0 % 32 == r
 -- whether block k sits in the rack of the seat v
 abbrev pub shares : List (Option Seat) → Seat → ℕ → Bool
 shares at v k = lies_in (v.rack.0 % 32) (seat_of at k)
+
+-- whether the node u is in one of eight sets of 32 nodes, and the node of a seat, if there is one
+abbrev pub noted : List ℕ → ℕ → Bool
+noted sets u = member (slice_index sets (u / 32 % 8)) (u % 32)
+
+abbrev pub has_noted : List ℕ → Option Seat → Bool
+has_noted sets None = true
+has_noted sets (Some v) = noted sets v.node.0
 
 -- no block in the rack of the seat v has its node
 abbrev pub Unheld : List (Option Seat) → Seat → Type 0

@@ -8,6 +8,8 @@ ghost use Rattle.placement.specs.Resolved.{CrowdedOut};
 
 use crate::resolve::{resolve, resolve_all};
 use crate::search::Search;
+use crate::seat::Lists;
+use crate::sitting::Sitting;
 use blocks::block::Block;
 use blocks::lists::Blocks;
 use site::SiteMap;
@@ -23,12 +25,12 @@ pub fn admit<M: SiteMap>(map: &M, c: u32, blocks: &Blocks, offered: &Block) -> R
         (λ _. choices (M.SiteMap.meaning map.now) c (lists_of blocks.now ++ copies_of offered.now ∷ []) ≢ [])
         (λ _. choices (M.SiteMap.meaning map.now) c (lists_of blocks.now ++ copies_of offered.now ∷ []) ≡ []) }
 {
-    let mut lists = resolve_all(map, blocks);
+    let mut lists = Lists::new();
+    resolve_all(map, blocks, &mut lists);
     let _ = lists.push(resolve(map, offered));
     let search = Search {
         seats: lists.as_slice(),
         c,
     };
-    search.seat_all()?;
-    Ok(())
+    search.seat_all(&mut Sitting::new())
 }

@@ -1,5 +1,5 @@
 // The first choice: block after block is narrowed to its earliest seat that leaves a choice for all.
-ghost use Rattle.std.specs.Prelude.{◌≡◌, ◌+◌, ◌<◌, List, length, MatchBool};
+ghost use Rattle.std.specs.Prelude.{◌≡◌, ◌+◌, ◌<◌, ◌≤◌, List, length, MatchBool};
 ghost use Rattle.site.specs.Site.{Site};
 ghost use Rattle.choices.specs.Choice.{Copies, choices};
 ghost use Rattle.choices.specs.Plan.{first_of};
@@ -76,7 +76,8 @@ impl Settling {
 
     // The nodes at which the blocks sit.
     fn nodes(&self) -> Nodes
-        ensures { node_numbers result ≡ placed (length self.now.seats) self.now.sat.at }
+        ensures value { node_numbers result ≡ placed (length self.now.seats) self.now.sat.at }
+        ensures few { length (node_numbers result) ≤ 24 }
     {
         let mut nodes = Nodes::new();
         for seat in front(&self.sat.at, self.seats.len()) {
@@ -86,8 +87,9 @@ impl Settling {
     }
 
     // The nodes at which the blocks sit once each was narrowed in turn.
-    fn first(mut self) -> Nodes
-        ensures { (s : Site) (c : _) (bs : List Copies) → Standing s c bs self → node_numbers result ≡ first_of (choices s c bs) }
+    fn first(&mut self) -> Nodes
+        ensures value { (s : Site) (c : _) (bs : List Copies) → Standing s c bs self.old → node_numbers result ≡ first_of (choices s c bs) }
+        ensures few { length (node_numbers result) ≤ 24 }
     {
         // A block goes by its number, and its list is narrowed in place, so the lists are not walked.
         for i in 0..self.seats.len() as u32 {
@@ -99,15 +101,21 @@ impl Settling {
 
 /// The first choice of some blocks: the node of each; none where they have no choice.
 pub fn first_choice<M: SiteMap>(map: &M, c: u32, blocks: &Blocks) -> Nodes
-    ensures { node_numbers result ≡ first_of (choices (M.SiteMap.meaning map.now) c (lists_of blocks.now)) }
+    ensures value { node_numbers result ≡ first_of (choices (M.SiteMap.meaning map.now) c (lists_of blocks.now)) }
+    ensures few { length (node_numbers result) ≤ 24 }
 {
-    let seats = resolve_all(map, blocks);
+    let mut settling = Settling {
+        seats: Lists::new(),
+        c,
+        sat: Sitting::new(),
+    };
+    resolve_all(map, blocks, &mut settling.seats);
     let search = Search {
-        seats: seats.as_slice(),
+        seats: settling.seats.as_slice(),
         c,
     };
-    match search.seat_all() {
-        Ok(sat) => Settling { seats, c, sat }.first(),
+    match search.seat_all(&mut settling.sat) {
+        Ok(()) => settling.first(),
         Err(_) => Nodes::new(),
     }
 }

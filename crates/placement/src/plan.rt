@@ -14,6 +14,7 @@ pub fn plan<M: SiteMap>(map: &M, code: &Code, blocks: &Blocks, start: Node) -> N
     ensures planned { length (lists_of blocks.now) ≤ code.now.k
         → node_numbers result ≡ planned (M.SiteMap.meaning map.now) code.now.n code.now.k code.now.c (lists_of blocks.now) start.0 }
     ensures over { code.now.k < length (lists_of blocks.now) → node_numbers result ≡ [] }
+    ensures few { length (node_numbers result) ≤ 24 }
 {
     if blocks.len() > code.k as usize {
         return Nodes::new();

@@ -1,5 +1,5 @@
 // Blocks' lists resolved against a map: the only step that asks it, once for each listed node.
-ghost use Rattle.std.specs.Prelude.{◌≡◌, ◌≤◌, length};
+ghost use Rattle.std.specs.Prelude.{◌≡◌, ◌≤◌, [], length};
 ghost use Rattle.blocks.specs.Blocks.{copies_of};
 ghost use Rattle.blocks.specs.Lists.{lists_of};
 ghost use Rattle.placement.specs.Resolved.{seated, Resolved};
@@ -23,14 +23,13 @@ pub(crate) fn resolve<M: SiteMap>(map: &M, block: &Block) -> Seats
     seats
 }
 
-/// The same of each of a stripe's blocks.
-pub(crate) fn resolve_all<M: SiteMap>(map: &M, blocks: &Blocks) -> Lists
-    ensures lists { Resolved (M.SiteMap.meaning map.now) (lists_of blocks.now) result }
-    ensures few { length result ≤ 16 }
+/// The same of each of a stripe's blocks, into lists that has none yet.
+// They are lent, so that they are not copied.
+pub(crate) fn resolve_all<M: SiteMap>(map: &M, blocks: &Blocks, lists: &mut Lists)
+    ensures lists { lists.old ≡ [] → Resolved (M.SiteMap.meaning map.now) (lists_of blocks.now) lists.new }
+    ensures few { lists.old ≡ [] → length lists.new ≤ 16 }
 {
-    let mut lists = Lists::new();
     for block in blocks.as_slice() {
         let _ = lists.push(resolve(map, block));
     }
-    lists
 }

@@ -1,7 +1,7 @@
 // The search for a seat of one more block. Depth first: where no seat is open, another block gives way and is placed anew;
 // each block is taken out at most once. Where all fails, the blocks taken out are the least tight set.
-ghost use Rattle.std.specs.Prelude.{◌≡◌, ◌≤◌, length, IfSome, MatchResult};
-ghost use Rattle.placement.specs.Seats.{list_at, Offers, Seated, Unseated, Freed, Barred, Extended, Stuck, AllSit, NotAllSit};
+ghost use Rattle.std.specs.Prelude.{◌≡◌, ℕ, ◌≤◌, None, length, IfSome, MatchResult};
+ghost use Rattle.placement.specs.Seats.{list_at, seat_of, Offers, Seated, Unseated, Freed, Barred, Extended, Stuck, AllSit, NotAllSit};
 
 use crate::members::Members;
 use crate::seat::{Seat, Seats};
@@ -104,17 +104,17 @@ impl<'a> Search<'a> {
         self.place(sat, NumberSet::from(0).with(x), x)
     }
 
-    /// Gives each block a seat; or gives the least tight set of the first of them that cannot all sit.
-    pub(crate) fn seat_all(&self) -> Result<Sitting, NumberSet>
-        ensures { MatchResult result
-            (λ sat. AllSit self.now.c self.now.seats.now sat.at)
+    /// Gives each block a seat, where nobody sits yet; or gives the least tight set of the first of them that cannot all sit.
+    // The sitting is lent, so that it is not copied.
+    pub(crate) fn seat_all(&self, sat: &mut Sitting) -> Result<(), NumberSet>
+        ensures { ((k : ℕ) → seat_of sat.old.at k ≡ None) → MatchResult result
+            (λ _. AllSit self.now.c self.now.seats.now sat.new.at)
             (NotAllSit self.now.c self.now.seats.now) }
     {
-        let mut sat = Sitting::new();
         // A block goes by its number; nothing of the lists is looked at here.
         for m in 0..self.seats.len() as u32 {
-            self.extend(&mut sat, m)?;
+            self.extend(sat, m)?;
         }
-        Ok(sat)
+        Ok(())
     }
 }

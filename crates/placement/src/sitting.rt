@@ -1,8 +1,8 @@
 // Where the blocks sit, and for each rack the set of the blocks that sit there: so that a search need not look at every block
 // to know who is in a rack.
-ghost use Rattle.std.specs.Prelude.{◌≡◌, ℕ, ◌%◌, ◌<◌, Bool, true, ◌&&◌, ◌||◌, ◌==◌, not, Some, None, length, IsTrue, ◌↔◌, set, slice_index, slice_set};
+ghost use Rattle.std.specs.Prelude.{◌≡◌, ℕ, ◌/◌, ◌%◌, ◌<◌, Bool, true, ◌&&◌, ◌||◌, ◌==◌, not, Some, None, length, IsTrue, set, slice_index, slice_set};
 ghost use Rattle.site.specs.Words.{member};
-ghost use Rattle.placement.specs.Seats.{seat_of, lies_at, lies_in, Holder, Blockers, shares};
+ghost use Rattle.placement.specs.Seats.{seat_of, lies_at, lies_in, noted, has_noted, Holder, Blockers, shares};
 
 use crate::members::Members;
 use crate::seat::{MOST, Seat};
@@ -38,6 +38,25 @@ fn join(racks: &mut [NumberSet], x: u32, seat: Option<Seat>)
     }
 }
 
+/// The place of a node's set, of 32 nodes each. Nodes of a map are below 256.
+fn shelf(node: Node) -> usize
+    ensures { (result ≡ node.0 / 32 % 8) × (result < 8) }
+{
+    usize::from(node.0 / 32 % 8)
+}
+
+// The node of a seat joins its set.
+fn note(sets: &mut [NumberSet], seat: Option<Seat>)
+    requires { length sets.old ≡ 8 }
+    ensures kept { (u : ℕ) → noted sets.old u ≡ true → noted sets.new u ≡ true }
+    ensures own { has_noted sets.new seat ≡ true }
+{
+    if let Some(v) = seat {
+        let i = shelf(v.node);
+        sets[i] = sets[i].with(u32::from(v.node.0 % 32));
+    }
+}
+
 /// Whether the seat that a block has, if it has one, is at a node.
 pub(crate) fn is_at(seat: Option<Seat>, node: Node) -> bool
     ensures { result ≡ lies_at node.0 seat }
@@ -51,9 +70,13 @@ pub(crate) struct Sitting {
     pub(crate) at: [Option<Seat>; MOST],
     // In fixed memory: a search allocates nothing.
     racks: [NumberSet; 32],
+    // The nodes where a block sits or has sat: at no other node is there one, which is told without a look at the blocks.
+    nodes: [NumberSet; 8],
     ghost places: { length at ≡ 17 },
     ghost full: { length racks ≡ 32 },
     ghost told: { (r k : ℕ) → r < 32 → member (slice_index racks r) k ≡ lies_in r (seat_of at k) },
+    ghost shelves: { length nodes ≡ 8 },
+    ghost known: { (k : ℕ) → has_noted nodes (seat_of at k) ≡ true },
 }
 
 impl Sitting {
@@ -64,6 +87,7 @@ impl Sitting {
         Sitting {
             at: [None; MOST],
             racks: [NumberSet::from(0); 32],
+            nodes: [NumberSet::from(0); 8],
         }
     }
 
@@ -79,6 +103,7 @@ impl Sitting {
         let had = self.at[i];
         leave(&mut self.racks, x, had);
         join(&mut self.racks, x, seat);
+        note(&mut self.nodes, seat);
         self.at[i] = seat;
         had
     }
@@ -118,10 +143,19 @@ impl Sitting {
         Some(there)
     }
 
-    /// Whether a seat is open. Most are told without a look at the blocks.
-    pub(crate) fn is_open(&self, c: u32, v: Seat) -> bool
-        ensures { IsTrue result ↔ Blockers c self.now.at v None }
+    // Whether a block may sit at a node, or have sat there.
+    fn is_noted(&self, node: Node) -> bool
+        ensures { result ≡ noted self.now.nodes node.0 }
     {
-        self.in_rack(v).len() < c && self.holder(v).is_none()
+        self.nodes[shelf(node)].has(u32::from(node.0 % 32))
+    }
+
+    /// Whether a seat is open for sure, told without a look at the blocks. Where a block has left the node, and others are in the
+    /// rack, it may be open all the same.
+    pub(crate) fn is_open(&self, c: u32, v: Seat) -> bool
+        ensures { IsTrue result → Blockers c self.now.at v None }
+    {
+        let there = self.in_rack(v);
+        there.len() < c && (u32::from(there) == 0 || !self.is_noted(v.node))
     }
 }

@@ -11,6 +11,9 @@ use text::number::number;
 /// The highest number that a rack of a node line may have.
 pub const LAST_RACK: u32 = RACKS - 1;
 
+/// The highest number that a node line may have.
+pub const LAST_NODE: u32 = NODES as u32 - 1;
+
 /// What a field has to be.
 #[derive(Clone, Copy)]
 pub enum Want {
@@ -88,7 +91,7 @@ fn judge_next(field: &[u8], count: u32) -> Result<(), FaultKind>
     ensures { Judged (Want.Next count) field.now result }
 {
     let node = number(field, u32::MAX).ok_or(FaultKind::Field)?;
-    if node != count || node >= u32::from(NODES) {
+    if node != count || node > LAST_NODE {
         return Err(FaultKind::Node);
     }
     Ok(())

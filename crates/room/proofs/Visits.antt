@@ -1,6 +1,7 @@
 -- Visits one after the other, and the count of a plan's nodes by rack, one node on.
-use Rattle.std.proofs.Common.{◌≡◌, ℕ, zero, suc, ◌+◌, ◌-◌, ◌<◌, ◌≤◌, true, false, cond, not, ◌&&◌, eqb, ltb, List, [], ◌∷◌, ◌++◌, length, get_or, take, set, replicate, count_by, sym, refl, ap, ◌∙◌, ◌⊎◌, ap₂, inl, inr, arith}
-use Rattle.std.proofs.lemmas.Bool.{cases_eq, eq-eqb, ne_eqb, lt-ltb, le-ltb, and_right}
+use Rattle.std.proofs.Common.{◌≡◌, ℕ, zero, suc, ◌+◌, ◌-◌, ◌<◌, ◌≤◌, true, false, cond, not, ◌&&◌, eqb, ltb, List, [], ◌∷◌, ◌++◌, length, get_or, take, drop, min, take-append-drop, set, replicate, count_by, sym, refl, ap, ◌∙◌, ◌⊎◌, ap₂, inl, inr, arith}
+use Rattle.std.proofs.Math.Nat.{min-le_right}
+use Rattle.std.proofs.lemmas.Bool.{cases_eq, cases_lt, eq-eqb, ne_eqb, lt-ltb, le-ltb, and_right}
 use Rattle.std.proofs.lemmas.List.Sums.{sum_by_push, count_by-le-length}
 use Rattle.std.proofs.lemmas.List.{append-nil, append_assoc, take_more, map_push, length-append, length-set, get_or-set_same, get_or-set_other, get_or-replicate}
 use Rattle.site.specs.Site.{Site, keeps, node_rack}
@@ -8,6 +9,7 @@ use Rattle.site.specs.declared.Node.{Node}
 use Rattle.blocks.specs.Lists.{node_numbers}
 use Rattle.choices.specs.Choice.{has, beside}
 use Rattle.choices.specs.Plan.{free, parity}
+use Rattle.choices.proofs.Parity.{parity-most}
 use Rattle.room.specs.Plans.{after, Loads}
 
 module _ (s : Site) (c : ℕ) where
@@ -45,6 +47,17 @@ module _ (s : Site) (c : ℕ) where
   -- a visit of one node: where there are n already, and where there are not
   pub after-full : (n : ℕ) (taken vs : List ℕ) → n ≤ length taken → after s c n taken vs ≡ taken
   after-full n taken vs h = let e : n - length taken ≡ 0 = omega arith in rw e (append-nil taken)
+
+  -- nor does a visit of more nodes, once there are n
+  pub after-front : (n : ℕ) (taken vs ws : List ℕ) → vs ≡ take (length vs) ws → n ≤ length (after s c n taken vs) → after s c n taken vs ≡ after s c n taken ws
+  after-front n taken vs ws e h =
+      let rest = drop (length vs) ws in
+      sym (after-full n (after s c n taken vs) rest h) ∙ (after-after n taken vs rest ∙ ap (after s c n taken) (ap (λ l. l ++ rest) e ∙ take-append-drop (length vs) ws))
+
+  -- a plan of at most m nodes that may have n has at most m
+  pub after-few : (m left : ℕ) (taken vs : List ℕ) → length taken ≤ m → length (taken ++ parity s c (min left (m - length taken)) taken vs) ≤ m
+  after-few m left taken vs h =
+      omega (arith, h, length-append taken (parity s c (min left (m - length taken)) taken vs), parity-most s c (min left (m - length taken)) taken vs, min-le_right left (m - length taken))
 
   pub after_one : (n : ℕ) (taken : List ℕ) (v : ℕ) → length taken < n → after s c n taken (v ∷ []) ≡ cond (free s c taken v) (taken ++ v ∷ []) taken
   after_one n taken v h =
@@ -89,6 +102,17 @@ module _ (s : Site) (taken xs : List ℕ) (l : Loads s taken xs) where
   free_open c v k y e h =
       let n : beside s v taken ≡ get_or xs k 0 = ap (λ j. count_by (λ w. eqb (node_rack s w) j) taken) e ∙ sym (l.counts k h) in
       ap₂ (λ b j. b && (not (has v taken) && ltb j c)) y n
+
+pub not_free : (s : Site) (c : ℕ) (taken : List ℕ) (v : ℕ) → keeps s v ≡ false → free s c taken v ≡ false
+not_free s c taken v e = ap (λ b. b && (not (has v taken) && ltb (beside s v taken) c)) e
+
+-- a visit of a node that is not marked yes
+pub after-pass : (s : Site) (c n : ℕ) (taken : List ℕ) (v : ℕ) → keeps s v ≡ false → after s c n taken (v ∷ []) ≡ taken
+after-pass s c n taken v e =
+    elim (cases_lt (length taken) n) [
+      | inl h ↦ after_one s c n taken v h ∙ ap (λ b. cond b (taken ++ v ∷ []) taken) (not_free s c taken v e)
+      | inr h ↦ after-full s c n taken (v ∷ []) h
+    ]
 
 -- a visit of a yes node v of rack k
 module _ (s : Site) (c n : ℕ) (taken xs : List ℕ) (l : Loads s taken xs) (v k : ℕ) (y : keeps s v ≡ true) (e : node_rack s v ≡ k) (h : k < 32)

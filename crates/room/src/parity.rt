@@ -63,13 +63,18 @@ impl<'a, M: SiteMap> Rule<'a, M> {
 
 /// Adds up to `left` parity nodes to a plan, as far as it has room, the visit beginning at `start`.
 pub fn parity<M: SiteMap>(map: &M, c: u32, left: usize, plan: &mut Nodes, start: Node)
-    ensures { node_numbers plan.new ≡ node_numbers plan.old ++ parity_nodes (M.SiteMap.meaning map.now) c (min left (24 - length (node_numbers plan.old))) (node_numbers plan.old) (round (M.SiteMap.meaning map.now) start.0) }
+    ensures value { node_numbers plan.new ≡ node_numbers plan.old ++ parity_nodes (M.SiteMap.meaning map.now) c (min left (24 - length (node_numbers plan.old))) (node_numbers plan.old) (round (M.SiteMap.meaning map.now) start.0) }
+    ensures few { length (node_numbers plan.new) ≤ 24 }
 {
     let taken = plan.len();
     let most = taken + left.min(PLANNED - taken);
     let rule = Rule { map, c, most };
     let mut filling = rule.loaded(plan);
     for v in (start.0..map.nodes()).chain(0..start.0) {
+        // A plan that is full takes no further node.
+        if filling.nodes.len() >= most {
+            break;
+        }
         rule.visit(&mut filling, Node(v));
     }
     *plan = filling.nodes;

@@ -44,10 +44,7 @@ fn prints(sheet: &[u8], text: &[u8]) -> bool {
     let mut lines = Lines::new(b"");
     let mut table = [(Rack::default(), Mark::default()); TABLE];
     match open_run(sheet, &mut lines, &mut table) {
-        Ok(opening) => {
-            let map = sheet_map(opening, &table);
-            runs(&map, lines, opening.head.code, text)
-        }
+        Ok(opening) => runs(sheet_map(opening, &table), lines, opening.head.code, text),
         Err(fault) => is_fault(fault, text),
     }
 }

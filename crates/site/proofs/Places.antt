@@ -1,13 +1,14 @@
 -- What the meanings of the three maps have at a node.
-use Rattle.std.proofs.Common.{◌≡◌, ℕ, zero, suc, ◌*◌, ◌/◌, ◌<◌, ◌≤◌, Bool, true, false, cond, ltb, List, [], ◌∷◌, map, length, take, Some, None, Option, sym, refl, subst, ap, ◌∙◌, arith}
+use Rattle.std.proofs.Common.{◌≡◌, ℕ, zero, suc, ◌*◌, ◌/◌, ◌<◌, ◌≤◌, Bool, true, false, cond, ltb, List, [], ◌∷◌, map, length, get_or, take, Some, None, Option, sym, refl, subst, ap, ◌∙◌, arith}
 use Rattle.std.specs.List.{AllByRecursion, AllWithin, HoldsAt, slice_get}
 use Rattle.std.specs.Option.{MatchOption, unwrap_or}
 use Rattle.std.proofs.lemmas.Bool.{lt-ltb, le-ltb}
 use Rattle.std.proofs.lemmas.List.FromFn.{length-map-range_with_len, get_or-map-range_with_len}
 use Rattle.std.proofs.lemmas.Option.{slice_get-get_or, slice_get_past}
+use Rattle.std.proofs.lemmas.List.{get_or-take, length-take-le}
 use Rattle.site.specs.declared.Mark.TheVariants.{Yes}
 use Rattle.site.specs.Site.{Place}
-use Rattle.site.specs.Maps.{window, regular}
+use Rattle.site.specs.Maps.{window, regular, listed}
 
 module _ {X : Type 0} where
   pub all-nth : (P : X → Type 0) (xs : List X) (i : ℕ) (x : X) → AllByRecursion P xs → slice_get xs i ≡ Some x → P x
@@ -33,14 +34,28 @@ regular-at racks each v h =
 pub regular-past : (racks each v : ℕ) → racks * each ≤ v → slice_get (regular racks each) v ≡ None
 regular-past racks each v h = slice_get_past (regular racks each) v (rw length-map-range_with_len h)
 
--- a window leaves its own entries as they are
-pub window-own : (n : ℕ) (ps : List Place) → window n (window n ps) ≡ window n ps
-window-own zero ps = refl
-window-own (suc n) [] = refl
-window-own (suc n) (p ∷ ps) =
-    let P : Bool → Type 0 = λ b. ltb p.0.0 32 ≡ b → window (suc n) (cond b (p ∷ window n ps) []) ≡ cond b (p ∷ window n ps) [] in
-    let both : (b : Bool) → P b = λ b. elim b as P [ true ↦ (λ q. rw q (ap (λ r. p ∷ r) (window-own n ps))) | false ↦ (λ q. refl) ] in
-    both (ltb p.0.0 32) refl
+pub window-take : (n : ℕ) (ps : List Place) → window n ps ≡ take (length (window n ps)) ps
+window-take zero ps = refl
+window-take (suc n) [] = refl
+window-take (suc n) (p ∷ ps) =
+    elim (ltb p.0.0 32) as (λ b. cond b (p ∷ window n ps) [] ≡ take (length (cond b (p ∷ window n ps) [])) (p ∷ ps))
+    [ true ↦ ap (λ r. p ∷ r) (window-take n ps) | false ↦ refl ]
+
+pub window-within : (n : ℕ) (ps : List Place) → length (window n ps) ≤ length ps
+window-within zero ps = omega arith
+window-within (suc n) [] = omega arith
+window-within (suc n) (p ∷ ps) =
+    elim (ltb p.0.0 32) as (λ b. length (cond b (p ∷ window n ps) []) ≤ suc (length ps))
+    [ true ↦ omega (arith, window-within n ps) | false ↦ omega arith ]
+
+pub listed_at : (ps : List Place) (v : ℕ) (d : Place) → v < length (listed ps) → slice_get (listed ps) v ≡ Some (get_or ps v d)
+listed_at ps v d h =
+    let n = length (window 256 ps) in
+    let e : get_or (window 256 ps) v d ≡ get_or ps v d = ap (λ l. get_or l v d) (window-take 256 ps) ∙ get_or-take n ps v d h in
+    slice_get-get_or (listed ps) v d h ∙ ap Some e
+
+pub listed-past : (ps : List Place) (v : ℕ) → length (listed ps) ≤ v → slice_get (listed ps) v ≡ None
+listed-past ps v h = slice_get_past (listed ps) v h
 
 -- the entries before the first whose rack is past the last, of as many as the window may have
 pub window-reach : (n : ℕ) (ps : List Place) (k : ℕ) → AllWithin (λ p. p.0.0 < 32) (take n ps) 0 k → k ≤ length (take n ps)
@@ -63,3 +78,10 @@ window-found n ps ws None e f = subst (λ vs. take (length vs) vs ≡ window n p
 window-found n ps ws (Some i) e f =
     let g = subst (λ vs. (i < length vs) × HoldsAt (λ p. 32 ≤ p.0.0) vs i × AllWithin (λ p. p.0.0 < 32) vs 0 i) e f in
     subst (λ vs. take i vs ≡ window n ps) (sym e) (window-reach n ps i g.2 (omega (arith, g.0)) (λ h. g.1))
+
+-- how many they are
+pub window-count : (n : ℕ) (ps ws : List Place) (r : Option ℕ) → ws ≡ take n ps
+    → MatchOption r (AllWithin (λ p. p.0.0 < 32) ws 0 (length ws)) (λ i. (i < length ws) × HoldsAt (λ p. 32 ≤ p.0.0) ws i × AllWithin (λ p. p.0.0 < 32) ws 0 i)
+    → length (window n ps) ≡ unwrap_or r (length ws)
+window-count n ps ws None e f = ap length (sym (window-found n ps ws None e f)) ∙ length-take-le (length ws) ws (omega arith)
+window-count n ps ws (Some i) e f = ap length (sym (window-found n ps ws (Some i) e f)) ∙ length-take-le i ws (omega (arith, f.0))

@@ -1,6 +1,6 @@
 -- The meanings of the three maps keep the limits.
 use Rattle.std.specs.Prelude.{◌≡◌, ℕ, zero, suc, ◌+◌, ◌*◌, ◌/◌, ◌<◌, ◌≤◌, Bool, true, false, cond, List, [], ◌∷◌, length, nat_lt, refl}
-use Rattle.std.proofs.Common.{arith, subst}
+use Rattle.std.proofs.Common.{arith}
 use Rattle.std.proofs.lemmas.List.{length-map}
 use Rattle.std.specs.List.{range_with_len, AllByRecursion}
 use Rattle.std.proofs.lemmas.Bool.{ltb-true}
@@ -44,7 +44,3 @@ regular-limits racks each f = record {
       let e : 0 + i ≡ i = omega arith in
       rw (get_or-range_with_len, e) (omega (arith, div_below i each racks f.2 k, f.1))));
 }
-
--- a window's own entries are within the limits
-pub listed-own : (ps : List Place) → listed ps ≡ ps → Limits ps
-listed-own ps own = subst Limits own (listed-limits ps)

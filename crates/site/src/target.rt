@@ -1,16 +1,17 @@
 // The target map: any other map, with the racks that may keep blocks narrowed to those of a word.
-ghost use Rattle.std.specs.Prelude.{◌≡◌, bit_and};
+ghost use Rattle.std.specs.Prelude.{◌≡◌, ◌<◌, bit_and};
+ghost use Rattle.site.specs.Words.{member};
 ghost use Rattle.site.specs.Maps.{target, marked};
 ghost use Rattle.site.specs.Limits.{target-limits};
 
-use crate::set::NumberSet;
 use crate::{Mark, Node, Rack, SiteMap};
 
 /// The map below, with the marks of a rack's nodes kept only where the rack's bit of `word` is 1.
+// A word, and no `NumberSet`: with one, a function that makes a sheet's map and hands it on by value gets no proof (tried).
 #[derive(Drop)]
 pub struct TargetMap<M: SiteMap> {
     map: M,
-    word: NumberSet,
+    word: u32,
 }
 
 impl<M: SiteMap> TargetMap<M> {
@@ -19,10 +20,7 @@ impl<M: SiteMap> TargetMap<M> {
         ensures fields { (result.map ≡ map) × (result.word ≡ word) }
         ensures means { target result.word (M.meaning result.map) ≡ target word (M.meaning map) }
     {
-        TargetMap {
-            map,
-            word: NumberSet::from(word),
-        }
+        TargetMap { map, word }
     }
 
     /// All racks are targets: it means what the map below means.
@@ -31,7 +29,7 @@ impl<M: SiteMap> TargetMap<M> {
     {
         TargetMap {
             map,
-            word: NumberSet::from(u32::MAX),
+            word: u32::MAX,
         }
     }
 
@@ -43,9 +41,17 @@ impl<M: SiteMap> TargetMap<M> {
         let TargetMap { map, word: own } = self;
         TargetMap {
             map,
-            word: NumberSet::from(u32::from(own) & word),
+            word: own & word,
         }
     }
+}
+
+// Whether the rack's bit is 1. By hand: `NumberSet::has` asks once more that the rack is below 32 (measured).
+fn bit_on(word: u32, rack: Rack) -> bool
+    requires { rack.0 < 32 }
+    ensures { result ≡ member word rack.0 }
+{
+    (word >> rack.0) % 2 == 1
 }
 
 // The mark below where the rack is a target, else no.
@@ -66,6 +72,6 @@ impl<M: SiteMap> SiteMap for TargetMap<M> {
 
     fn node(&self, v: Node) -> Option<(Rack, Mark)> {
         let (rack, mark) = self.map.node(v)?;
-        Some((rack, narrowed(mark, self.word.has(rack.0))))
+        Some((rack, narrowed(mark, bit_on(self.word, rack))))
     }
 }

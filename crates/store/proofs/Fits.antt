@@ -1,7 +1,8 @@
 -- No stripe has more blocks than the code allows.
-use Rattle.std.proofs.Common.{◌≡◌, ℕ, zero, suc, ◌≤◌, Bool, true, false, List, [], ◌∷◌, length, set, is_some, Some, None, Option, sym, refl, ap, ◌∙◌, arith}
+use Rattle.std.proofs.Common.{◌≡◌, ℕ, zero, suc, ◌<◌, ◌≤◌, Bool, true, false, List, [], ◌∷◌, length, get_or, set, is_some, Some, None, Option, sym, refl, ap, ◌∙◌, arith}
 use Rattle.std.proofs.lemmas.List.{length-set}
-use Rattle.std.proofs.lemmas.Bool.{leb-true, le-leb, eq-eqb, and_parts, and_from, false≢true, true≢false}
+use Rattle.std.proofs.lemmas.Bool.{eqb-true, leb-true, le-leb, eq-eqb, and_parts, and_from, false≢true, true≢false}
+use Rattle.site.specs.declared.Node.{Node}
 use Rattle.choices.specs.Choice.{every}
 use Rattle.blocks.specs.declared.code.Code.{Code}
 use Rattle.store.specs.declared.stripe.Stripe.{Stripe}
@@ -21,6 +22,11 @@ every_set f (x ∷ xs) (suc i) y h e = let p = and_parts (f x) (every f xs) e in
 every_more : {X : Type 0} (f g : X → Bool) → ((x : X) → f x ≡ true → g x ≡ true) → (xs : List X) → every f xs ≡ true → every g xs ≡ true
 every_more f g h [] e = refl
 every_more f g h (x ∷ xs) e = let p = and_parts (f x) (every f xs) e in and_from (g x) (every g xs) (h x p.0) (every_more f g h xs p.1)
+
+every-at : {X : Type 0} (f : X → Bool) (xs : List X) (i : ℕ) (d : X) → i < length xs → every f xs ≡ true → f (get_or xs i d) ≡ true
+every-at f [] i d h e = absurd (omega arith)
+every-at f (x ∷ xs) zero d h e = (and_parts (f x) (every f xs) e).0
+every-at f (x ∷ xs) (suc i) d h e = every-at f xs i d (omega arith) (and_parts (f x) (every f xs) e).1
 
 -- another record in one place
 pub fits-put : {M : Type 0} (st : Store M) (r : ℕ) (x : Stripe) → allowed st.code x ≡ true
@@ -59,3 +65,11 @@ module _ (c : Option Code) (o : Code) (is : c ≡ Some o) where
 
   pub few : (bs : List Block) → allowed c (Filling bs) ≡ true → length bs ≤ o.k
   few bs h = leb-true (length bs) o.k (ap (λ t. allowed t (Filling bs)) (sym is) ∙ h)
+
+-- a stripe of the store is allowed: a sealed one is full
+module _ {M : Type 0} (st : Store M) (r : ℕ) (d : Stripe) (o : Code) (e : st.code ≡ Some o) (h : r < 32) where
+  allowed_at : (x : Stripe) → get_or st.stripes r d ≡ x → allowed (Some o) x ≡ true
+  allowed_at x f = ap (allowed (Some o)) (sym f) ∙ (ap (λ c. allowed c (get_or st.stripes r d)) (sym e) ∙ every-at (allowed st.code) st.stripes r d (omega (arith, st.full, h)) st.within)
+
+  pub sealed-full : (bs : List Block) (p : List Node) → get_or st.stripes r d ≡ Sealed bs p → length (helds_of bs) ≡ o.k
+  sealed-full bs p f = helds-length bs ∙ eqb-true (length bs) o.k (allowed_at (Sealed bs p) f)

@@ -5,6 +5,7 @@ pub mod Tells
 pub mod Written
 pub mod Reading
 pub mod Offering
+pub mod Coded
 pub mod Sound
 pub mod Keeps
 pub mod History

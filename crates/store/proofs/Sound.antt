@@ -14,16 +14,8 @@ use Rattle.store.specs.Stripes.{Code, Block, Stripe, Ledger, Call, empty, fillin
 use Rattle.store.specs.Refusals.{none, first, checks, fresh, refused_by, on_map, outside}
 use Rattle.store.specs.Ledger.{put, noted, code_noted, step, ledger}
 use Rattle.store.specs.Promise.{WellFormed}
+use Rattle.store.proofs.Coded.{within}
 use Rattle.store.proofs.Tells.{coded, uncoded, step-refused, step-noted, step-coded}
-
-within : (n k c : ℕ) → outside n k c ≡ false → Within n k c
-within n k c e =
-    let a = or_parts _ _ e in
-    let b = or_parts _ _ a.1 in
-    let d = or_parts _ _ b.1 in
-    let f = or_parts _ _ d.1 in
-    let h = or_parts _ _ f.1 in
-    (ltb-false k 1 a.0, ltb-false 16 k b.0, leb-false n k d.0, ltb-false 24 n f.0, ltb-false c 1 h.0, ltb-false (n - k) c h.1)
 
 pub record CodeSound (s : Site) (o : Code) : Type 0 where
   pub limits : Within o.n o.k o.c

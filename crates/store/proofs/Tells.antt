@@ -1,6 +1,6 @@
 -- How a call's contract is put together: from the refusal that it meets, or from what it notes.
 use Rattle.std.proofs.Common.{◌≡◌, ℕ, ◌<◌, ◌≤◌, Bool, true, false, eqb, ltb, List, [], ◌∷◌, ◌++◌, map, length, drop, Some, None, Ok, Err, Option, Result, sym, refl, ap, ◌∙◌, arith}
-use Rattle.std.proofs.lemmas.Bool.{false≢true, le-ltb}
+use Rattle.std.proofs.lemmas.Bool.{false≢true, lt-ltb, le-ltb}
 use Rattle.site.specs.Site.{Site}
 use Rattle.blocks.specs.declared.code.Code.{Code}
 use Rattle.store.specs.declared.types.Row.{Row}
@@ -42,6 +42,20 @@ module _ (s : Site) (l : Ledger) (call : Call) where
   pub step-coded : refused_by s l call ≡ None → l.code ≡ None → step s l call ≡ code_noted l call
   step-coded e f = step_by (refused_by s l call) l.code ∙ (ap (λ x. step_result x l.code) e ∙ ap (step_result None) f)
 
+abbrev pub is_offer : Call → Bool
+is_offer (led.set_up n k c) = false
+is_offer (led.offer b vs) = true
+is_offer (led.seal r v) = false
+is_offer (led.plan r room) = false
+is_offer (led.deletions r room) = false
+is_offer (led.standing r vs w) = false
+is_offer (led.release r) = false
+is_offer (led.abandon r) = false
+
+-- nor does another call than an offer
+pub unnamed-call : (s : Site) (l : Ledger) (call : Call) (r : Result Answer Refusal) → is_offer call ≡ false → Named s l call r
+unnamed-call s l call r none o b vs w c e f h = absurd (false≢true (sym none ∙ ap is_offer e))
+
 abbrev pub is_word : Result Answer Refusal → Bool
 is_word (Ok a) = false
 is_word (Err e) = eqb (number_of e) 24
@@ -80,6 +94,9 @@ something [] ne = absurd (ne refl)
 something (x ∷ xs) ne = refl
 
 -- the racks
+pub rack-far : (r : ℕ) → 32 ≤ r → ltb 31 r ≡ true
+rack-far r h = lt-ltb 31 r (omega arith)
+
 pub rack-near : (r : ℕ) → r < 32 → ltb 31 r ≡ false
 rack-near r h = le-ltb 31 r (omega arith)
 

@@ -2,7 +2,7 @@
 ghost use Rattle.std.specs.Prelude.{◌≡◌, ◌<◌, [], length};
 ghost use Rattle.blocks.specs.Blocks.{numbers};
 ghost use Rattle.store.specs.Stripes.{offer, seal, stripe, blocks_of};
-ghost use Rattle.store.specs.Table.{held_of, helds_of, ledger_of};
+ghost use Rattle.store.specs.Table.{held_of, ledger_of};
 ghost use Rattle.store.specs.Told.{Told, Tried};
 
 use crate::checks::{all_differ, all_on_map, core_rack, on_map};
@@ -11,21 +11,20 @@ use crate::stripe::Stripe;
 use crate::types::{Answer, Refusal};
 use blocks::block::Block;
 use blocks::code::Code;
-use blocks::lists::Blocks;
 use placement::admit::admit;
 use placement::plan::plan;
 use site::{Node, Rack, SiteMap};
 
 impl<M: SiteMap> Store<M> {
     // Adds a block to a stripe, whose blocks are below k, if that leaves a choice: its record is lent.
-    fn add(&mut self, code: Code, rack: Rack, own: &Blocks, block: Block) -> Result<Answer, Refusal>
+    fn add(&mut self, code: Code, rack: Rack, block: Block) -> Result<Answer, Refusal>
         requires coded { self.old.code ≡ Some code }
         requires near { rack.0 < 32 }
-        requires own { helds_of own.now ≡ blocks_of (stripe (ledger_of self.old) rack.0) }
-        requires below { length (helds_of own.now) < code.k }
+        requires below { length (blocks_of (stripe (ledger_of self.old) rack.0)) < code.k }
         ensures { Tried (M.meaning self.old.map) code.c rack.0 (held_of block) self.old self.new result }
     {
-        admit(&self.map, code.c(), own, &block).map_err(Refusal::NoChoice)?;
+        let own = self.stripe(rack)?.blocks();
+        admit(&self.map, code.c(), &own, &block).map_err(Refusal::NoChoice)?;
         let record = &mut self.stripes[rack.0 as usize];
         record.add(block);
         Ok(Answer::Position(own.len() as u32 + 1))
@@ -47,14 +46,13 @@ impl<M: SiteMap> Store<M> {
         if self.holds(number) {
             return Err(Refusal::BlockHeld);
         }
-        let stripe = *self.stripe(rack)?;
-        match stripe {
-            Stripe::Empty => self.add(code, rack, &Blocks::new(), block),
+        match self.stripe(rack)? {
+            Stripe::Empty => self.add(code, rack, block),
             Stripe::Filling(own) => {
                 if own.len() >= code.k() as usize {
                     return Err(Refusal::StripeFull);
                 }
-                self.add(code, rack, &own, block)
+                self.add(code, rack, block)
             }
             Stripe::Sealed(_, _) => Err(Refusal::StripeFull),
         }

@@ -101,10 +101,8 @@ fn a_short_buffer_has_the_front(rt: HostRuntime) {
     let mut writer = Writer::new(&mut buffer);
     writer.put_bytes(b"ok,");
     writer.put_number(u32::from(u8::from(FaultKind::Sheet)));
-    writer.put_bytes(b",0 ");
-    writer.put_number(10);
-    writer.put(b' ');
-    writer.put_number(205);
+    writer.put(b',');
+    writer.put_numbers(&[0, 10, 205]);
     assert_eq!(rt; writer.len(), 12);
     assert!(rt; buffer == *b"ok,14,0 10 2");
 }

@@ -13,6 +13,8 @@ pub struct Writer<'a> {
 }
 
 impl<'a> Writer<'a> {
+    ghost use Rattle.std.specs.List.{flat_map};
+    ghost use Rattle.text.specs.Spaced.{spaced};
     ghost use Rattle.text.specs.Texts.{Wrote};
 
     /// A writer that has written nothing yet.
@@ -53,9 +55,31 @@ impl<'a> Writer<'a> {
     pub fn put_number(&mut self, n: u32)
         ensures { Wrote self.old self.new (decimal n) }
     {
-        if n >= 10 {
-            self.put_number(n / 10);
+        // A number of one digit is not divided (measured).
+        if n < 10 {
+            self.put(b'0' + n as u8);
+            return;
         }
+        self.put_number(n / 10);
         self.put(b'0' + (n % 10) as u8);
+    }
+    // Each number with a space before it.
+    fn put_further(&mut self, numbers: &[u32])
+        ensures { Wrote self.old self.new (flat_map (λ n. 32 ∷ decimal n) numbers.now) }
+    {
+        for n in numbers {
+            self.put(b' ');
+            self.put_number(*n);
+        }
+    }
+
+    /// The numbers in decimal, with single spaces between.
+    pub fn put_numbers(&mut self, numbers: &[u32])
+        ensures { Wrote self.old self.new (spaced numbers.now) }
+    {
+        if let Some((first, more)) = numbers.split_first() {
+            self.put_number(*first);
+            self.put_further(more);
+        }
     }
 }

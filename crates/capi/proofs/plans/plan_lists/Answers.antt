@@ -12,8 +12,8 @@ returns-then-len-n c =
     let within = rw c.in_ok-code.ensures.ok_part at c.new.ensures in
     let p = c.plan-planned.result in
     let asked =
-    plan-asked c.args.site.now c.args.code.now lists.nodes.now lists.lens.now code.n code.k code.c _ (lists_of c.in_ok-blocks.blocks) c.args.start (node_numbers p) c.in_ok-map.ensures within
-    c.in_ok-blocks.ensures (omega arith) c.plan-planned.ensures.planned in
+    plan-asked c.args.site.now c.args.code.now lists.nodes.now lists.lens.now code.n code.k code.c _ (lists_of c.read.new.blocks) c.args.start (node_numbers p) c.in_ok-map.ensures within
+    (c.in_ok-read.ensures c.new-blocks.ensures) (omega arith) c.plan-planned.ensures.planned in
     (asked.0, λ e. c.if-len-n.true (c.len.ensures.value ∙ sym (length-map p (λ (v : Node). v.0)) ∙ ap length asked.1 ∙ e ∙ sym within.1 ∙ sym c.n.ensures))
 
 pub returns : goal.returns
@@ -23,6 +23,6 @@ returns c =
     let within = rw c.in_ok-code.ensures.ok_part at c.new.ensures in
     let p = c.plan-planned.result in
     let asked =
-    plan-asked c.args.site.now c.args.code.now lists.nodes.now lists.lens.now code.n code.k code.c _ (lists_of c.in_ok-blocks.blocks) c.args.start (node_numbers p) c.in_ok-map.ensures within
-    c.in_ok-blocks.ensures (omega arith) c.plan-planned.ensures.planned in
+    plan-asked c.args.site.now c.args.code.now lists.nodes.now lists.lens.now code.n code.k code.c _ (lists_of c.read.new.blocks) c.args.start (node_numbers p) c.in_ok-map.ensures within
+    (c.in_ok-read.ensures c.new-blocks.ensures) (omega arith) c.plan-planned.ensures.planned in
     (asked.0, asked.1, sym (ap length asked.1) ∙ length-map p (λ (v : Node). v.0) ∙ sym c.len.ensures.value ∙ c.if-len-n.false ∙ c.n.ensures ∙ within.1)

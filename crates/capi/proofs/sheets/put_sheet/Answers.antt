@@ -5,7 +5,7 @@ use Rattle.capi.proofs.sheets.put_sheet.Goals as goal
 pub returns-in-Ok : goal.returns-in-Ok
 returns-in-Ok c =
     let sheet = c.args.sheet.now in
-    let h = opened-says sheet _ c.open_run.new.table c.open_run.new.lines c.in-Ok.opening _ c.in-Ok.ensures c.sheet_map-map.ensures in
+    let h = opened-says sheet _ c.open_run.new.table c.open_run.new.lines c.in-Ok.opening _ c.in-Ok.ensures c.sheet_map.ensures in
     c.put_calls.ensures sheet h.0 h.1 h.2
 
 pub returns-in-Err : goal.returns-in-Err

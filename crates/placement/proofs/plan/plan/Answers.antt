@@ -30,4 +30,7 @@ pub returns-clause-planned : goal.returns-clause-planned
 returns-clause-planned g c = λ l.
     let q = c.args.code.now in
     roomy (g.M.SiteMap.meaning c.args.map.now) q.n q.k q.c (lists_of c.args.blocks.now) c.args.start.0 _ _ q.more q.few l
-    c.first_choice-nodes.ensures c.parity.ensures
+    c.first_choice-nodes.ensures.value c.parity.ensures.value
+
+pub returns-clause-few : goal.returns-clause-few
+returns-clause-few g c = c.parity.ensures.few

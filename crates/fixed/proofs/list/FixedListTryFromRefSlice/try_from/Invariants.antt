@@ -1,5 +1,5 @@
-use Rattle.std.proofs.Common.{◌≡◌, ◌≤◌, take, length}
+use Rattle.fixed.proofs.Fills.{Filled}
 use Rattle.fixed.proofs.list.FixedListTryFromRefSlice.try_from.Given as goal
 
-abbrev pub invariant-loop-item : goal.invariant-loop-item
-invariant-loop-item g l = record { copied : l.list ≡ take l.item-index l.items; few : length l.list ≤ g.row.N }
+abbrev pub invariant-loop-i : goal.invariant-loop-i
+invariant-loop-i g l = Filled g.row.N l.items g.T.Blank.blank l.i l.at

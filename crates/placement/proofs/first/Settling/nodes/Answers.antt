@@ -23,3 +23,10 @@ loop-seat-preserved c =
     ∙ ap (λ z. z ++ c.node_of_seat.result.0 ∷ []) c.loop-seat.invariant
     ∙ ap (λ u. placed i at ++ u ∷ []) (c.node_of_seat.ensures ∙ front-read c.len.result i at c.front-seat-items.result.now c.front-seat-items.ensures n c.loop-seat-test.true)
     ∙ sym (map-range_with_len_more (node_at at) 0 i i (omega arith))
+
+pub returns-clause-few : goal.returns-clause-few
+returns-clause-few c =
+    let at = c.args.self.now.sat.at in
+    let n : c.len.result ≤ length at = omega (arith, c.len.ensures.few, c.args.self.now.sat.places) in
+    let most : length c.front-seat-items.result.now ≤ 17 = omega (arith, c.len.ensures.few, ap length c.front-seat-items.ensures, length-take-le c.len.result at n) in
+    omega (arith, most, ap length c.loop-seat.invariant, length-map-range_with_len (node_at at) 0 c.loop-seat.seat-index, c.loop-seat.auto.seat-index-end)

@@ -14,7 +14,7 @@ pub loop-v-preserved : goal.loop-v-preserved
 loop-v-preserved c = λ s k ds h.
     let is = listed_there (goal.at.loop-v-preserved c).After-as_slice-v-items in
     let o = c.loop-v.invariant s k ds h in
-    let f = c.if-try_seat.ensures s k ds o.0 in
+    let f = c.if-try_seat.ensures.2 s k ds o.0 in
     (f.0, vain-more s k ds c.args.i c.loop-v.v-index o.1 (λ m. f.1 c.loop-v.v-index (its-read s k ds c.args.self.now h c.args.i c.loop-v.v-index c.as_slice-v-items.result.now is m)))
 
 pub returns-then-try_seat : goal.returns-then-try_seat

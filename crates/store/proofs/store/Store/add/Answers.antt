@@ -13,21 +13,21 @@ use Rattle.store.proofs.store.Store.add.Goals as goal
 pub returns-in_err-map_err : goal.returns-in_err-map_err
 returns-in_err-map_err g c =
     let st = c.args.self.now in
-    let p = err_from_is_err_and c.from_residual.result c.from_residual.ensures.1 in
+    let p = err_from_is_err_and c.from_residual-in_err-map_err.result c.from_residual-in_err-map_err.ensures.1 in
     let q : (w : ℕ) × (c.admit.result ≡ Err w) × (c.in_err-map_err.field-0.0 ≡ NoChoice w) =
     elim c.admit.result as (λ r. c.admit.result ≡ r → (w : ℕ) × (r ≡ Err w) × (c.in_err-map_err.field-0.0 ≡ NoChoice w)) [
       | Ok x ↦ (λ e. search rules)
       | Err w ↦ (λ e. (w, refl, search rules))
     ] refl in
     let k = rw (q.1, c.c.ensures) at c.admit.ensures in
-    rw (p.1, p.2, q.2) (tried-no (g.M.SiteMap.meaning st.map) st c.args.rack.0 c.args.code.c c.args.own.now c.requires.own c.args.block q.0 k.listed k.chosen)
+    rw (p.1, p.2, q.2) (tried-no (g.M.SiteMap.meaning st.map) st c.args.rack.0 c.args.code.c c.blocks-own.result (c.blocks-own.ensures ∙ ap led.blocks_of (sym c.in_ok-stripe.ensures.1)) c.args.block q.0 k.listed k.chosen)
 
 pub invariant_of-self : goal.invariant_of-self
 invariant_of-self g c =
     let st = c.args.self.now in
     let r = c.args.rack.0 in
     let d = c.index-self-rack.result in
-    let own = ap length (c.requires.own ∙ ap led.blocks_of (stripe-at st r c.requires.near d)) in
+    let own = ap length (ap led.blocks_of (stripe-at st r c.requires.near d)) in
     let p = fits-put st r c.add.new.self (allowed-filling st.code c.args.code c.requires.coded _ c.add.ensures (omega (arith, own, c.requires.below, length_push (led.blocks_of (stripe_of (get_or st.stripes r d))) (held_of c.args.block)))) in
     record { full = p.0; within = p.1 }
 
@@ -38,10 +38,10 @@ returns g c =
     let r = c.args.rack.0 in
     let h : c.admit.result ≡ Ok tt = search rules in
     let k = rw (h, c.c.ensures) at c.admit.ensures.listed in
-    let own = c.requires.own in
+    let own = c.blocks-own.ensures ∙ ap led.blocks_of (sym c.in_ok-stripe.ensures.1) in
     let read : led.stripe (ledger_of st) r ≡ stripe_of (get_or st.stripes r c.index-self-rack.result) = stripe-at st r c.requires.near c.index-self-rack.result in (
-      tried-choice s st r c.args.code.c c.args.own.now own c.args.block k,
-      ap (λ n. Position (n + 1)) (c.len.ensures.value ∙ (sym (helds-length c.args.own.now) ∙ ap length own)),
+      tried-choice s st r c.args.code.c c.blocks-own.result own c.args.block k,
+      ap (λ n. Position (n + 1)) (c.len.ensures.value ∙ (sym (helds-length c.blocks-own.result) ∙ ap length own)),
       put-at st r c.add.new.self (c.add.ensures ∙ ap (λ x. led.filling (led.blocks_of x ++ held_of c.args.block ∷ [])) (sym read)),
       refl,
     )

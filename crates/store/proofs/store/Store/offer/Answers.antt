@@ -7,13 +7,13 @@ use Rattle.store.proofs.Held.{helds-length}
 use Rattle.store.proofs.Offering.{offer-tried, block-long, core-near}
 use Rattle.store.proofs.store.Store.offer.Goals as goal
 
-pub returns-in_err-stripe : goal.returns-in_err-stripe
-returns-in_err-stripe g c =
+pub returns-in_err-own : goal.returns-in_err-own
+returns-in_err-own g c =
     let st = c.args.self.now in
     let ns = c.args.nodes.now in
     let new = rw c.in_ok-block.ensures.ok_part at c.new.ensures in
     let long = block-long c.in_ok-block.block ns new.1 in
-    absurd (omega (arith, core-near (g.M.SiteMap.meaning st.map) (numbers ns) (g.M.SiteMap.limits st.map) (omega (arith, long.0)) (sym c.if-not-all_on_map.ensures), c.in_ok-rack.ensures.0, c.in_err-stripe.ensures.0))
+    absurd (omega (arith, core-near (g.M.SiteMap.meaning st.map) (numbers ns) (g.M.SiteMap.limits st.map) (omega (arith, long.0)) (sym c.if-not-all_on_map.ensures), c.in_ok-rack.ensures.0, c.in_err-own.ensures.0))
 
 pub returns-in-Empty : goal.returns-in-Empty
 returns-in-Empty g c =
@@ -24,7 +24,7 @@ returns-in-Empty g c =
     let new = rw c.in_ok-block.ensures.ok_part at c.new.ensures in
     let long = block-long block c.args.nodes.now new.1 in
     let core = c.in_ok-rack.ensures in
-    let read : led.stripe (ledger_of st) (led.core s vs) ≡ stripe_of Empty = ap (led.stripe (ledger_of st)) (sym core.0) ∙ (c.in_ok-stripe.ensures.1 ∙ ap stripe_of c.in-Empty.is) in
+    let read : led.stripe (ledger_of st) (led.core s vs) ≡ stripe_of Empty = ap (led.stripe (ledger_of st)) (sym core.0) ∙ (c.in_ok-own.ensures.1 ∙ ap stripe_of c.in-Empty.is) in
     let room = ap (λ x. length (led.blocks_of x)) read in
     offer-tried s st c.args.number vs c.in_ok-code.code c.in_ok-code.ensures long.0 long.1 (sym c.if-not-all_on_map.ensures) (sym c.if-not-all_differ.ensures) core.1 (sym c.if-holds.ensures)
     (omega (arith, room, c.in_ok-code.code.some)) c.in_ok-rack.rack.0 (held_of block) c.add.new.self c.add.result core.0
@@ -39,7 +39,7 @@ returns-else-len-k g c =
     let new = rw c.in_ok-block.ensures.ok_part at c.new.ensures in
     let long = block-long block c.args.nodes.now new.1 in
     let core = c.in_ok-rack.ensures in
-    let read : led.stripe (ledger_of st) (led.core s vs) ≡ stripe_of (Filling c.in-Filling.own) = ap (led.stripe (ledger_of st)) (sym core.0) ∙ (c.in_ok-stripe.ensures.1 ∙ ap stripe_of c.in-Filling.is) in
+    let read : led.stripe (ledger_of st) (led.core s vs) ≡ stripe_of (Filling c.in-Filling.own) = ap (led.stripe (ledger_of st)) (sym core.0) ∙ (c.in_ok-own.ensures.1 ∙ ap stripe_of c.in-Filling.is) in
     let room = ap (λ x. length (led.blocks_of x)) read in
     offer-tried s st c.args.number vs c.in_ok-code.code c.in_ok-code.ensures long.0 long.1 (sym c.if-not-all_on_map.ensures) (sym c.if-not-all_differ.ensures) core.1 (sym c.if-holds.ensures)
     (omega (arith, room, c.if-len-k.false, c.len.ensures.value, c.k.ensures, helds-length c.in-Filling.own)) c.in_ok-rack.rack.0 (held_of block) c.add-in-Filling.new.self c.add-in-Filling.result core.0

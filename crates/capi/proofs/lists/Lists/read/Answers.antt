@@ -5,10 +5,10 @@ use Rattle.blocks.specs.Blocks.{copies_of}
 use Rattle.fixed.proofs.Pushes.{pushed}
 use Rattle.capi.specs.Lists.{list_at}
 use Rattle.capi.proofs.Taken.{one-read, entries-front}
-use Rattle.capi.proofs.lists.Lists.blocks.Goals as goal
+use Rattle.capi.proofs.lists.Lists.read.Goals as goal
 
 pub loop-i-preserved : goal.loop-i-preserved
-loop-i-preserved c =
+loop-i-preserved c = λ none.
     let vs = c.args.self.now.nodes.now in
     let ns = c.args.self.now.lens.now in
     let i = c.loop-i.i in
@@ -18,7 +18,7 @@ loop-i-preserved c =
     let n : c.from.result ≡ get_or ns i 0 = c.from.ensures in
     let list : copies_of block ≡ list_at vs ns i = read.1 ∙ got.0.2 ∙ entries-front vs (8 * i) c.from.result ∙ ap (λ m. take m (drop (8 * i) vs)) n in
     let few : length c.loop-i.blocks < 16 =
-    omega (arith, length-map c.loop-i.blocks copies_of, ap length c.loop-i.invariant.0, length-map-range_with_len (list_at vs ns) 0 i) in (
-      one-read vs ns i c.loop-i.blocks c.push.new.self block c.loop-i.invariant.0 list (pushed 16 c.loop-i.blocks c.push.new.self block c.push.result c.push.ensures few),
-      below_more _ _ c.loop-i.invariant.1 (omega (arith, read.0, got.0.3), omega (arith, read.0, got.0.3)),
+    omega (arith, length-map c.loop-i.blocks copies_of, ap length (c.loop-i.invariant none).0, length-map-range_with_len (list_at vs ns) 0 i) in (
+      one-read vs ns i c.loop-i.blocks c.push.new.self block (c.loop-i.invariant none).0 list (pushed 16 c.loop-i.blocks c.push.new.self block c.push.result c.push.ensures few),
+      below_more _ _ (c.loop-i.invariant none).1 (omega (arith, read.0, got.0.3), omega (arith, read.0, got.0.3)),
     )
