@@ -14,7 +14,7 @@ use fixed::list::FixedList;
 use reader::calls::{Asked, CallLine};
 use site::{Node, Rack, SiteMap};
 use store::store::Store;
-use store::types::{Call, Kind, Row};
+use store::types::{Call, Row};
 use text::nodes::KEPT;
 
 /// As many rows as any call of a sheet writes.
@@ -66,13 +66,7 @@ pub(crate) fn answer_line<M: SiteMap>(store: &mut Store<M>, line: CallLine, out:
     let first = line.first;
     let nodes = offered(&line.asked);
     let call = call_with(line, nodes.as_slice());
-    // The blank row is written out: so the rows are blanked at once, and not one by one (measured).
-    let mut rows = [Row {
-        kind: Kind::Data,
-        number: 0,
-        node: Node(0),
-        rack: Rack(0),
-    }; ROWS];
+    let mut rows = [Row::default(); ROWS];
     let answer = store.call(&call, &mut rows);
     let reply = Reply {
         first,
